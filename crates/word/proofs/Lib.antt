@@ -1,0 +1,11 @@
+pub mod Cond
+pub mod Rest
+pub mod Lists
+pub mod Maps
+pub mod Within
+pub mod Signs
+pub mod Differences
+pub mod BigWords
+pub mod LittleBytes
+pub mod BitLaws
+pub mod Masks
