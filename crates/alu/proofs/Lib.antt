@@ -1,0 +1,7 @@
+pub mod Binary
+pub mod LogicBits
+pub mod Offsets
+pub mod Parts
+pub mod ShiftBits
+pub mod Taken
+pub mod Zero
