@@ -1,0 +1,64 @@
+-- Document 01, "Exception entry": "EPC takes PC, ExcCode is set, BD 0, CE the coprocessor for code 11 and 0 otherwise. Low six Status bits become themselves
+-- times 4 modulo 64; VM bits 24-26 times 2 modulo 8. BadVAddr is loaded for codes 1 to 5, the top 20 bits of EntryHi for 1 to 3."
+use Prim.Native.Nat.{ℕ, _+_, _*_, _/_, _%_, _^_}
+use mathlib.Core.Bool.{Bool, cond, _&&_}
+use lib.Dec.{eqb, leb}
+use Rattle.word.specs.Map.{bit}
+use Rattle.word.specs.Mask.{overlaidOf}
+use Rattle.isa.specs.declared.instr.ControlRegister.the-variants.{Status}
+use Rattle.cp0.specs.declared.registers.Cp0.{Cp0}
+use Rattle.cp0.specs.declared.entry.Exception.{Exception}
+use Rattle.cp0.specs.Registers.{withRegister}
+use Rattle.cp0.specs.Word.{pushedOf, poppedOf}
+
+-- first ≤ code ≤ last
+abbrev pub among : ℕ → ℕ → ℕ → Bool
+among first last code = leb first code && leb code last
+
+-- bits 12-31
+abbrev pub pageMask : ℕ
+pageMask = 0xFFFFF000
+
+-- BD is bit 31, CE bits 28-29, ExcCode bits 2-6
+abbrev pub entryMask : ℕ
+entryMask = 0xB000007C
+
+abbrev pub excCode : ℕ → ℕ
+excCode cause = cause / 2 ^ 2 % 2 ^ 5
+
+abbrev pub ceOf : Exception → ℕ
+ceOf e = cond (eqb (e .code) 11) (e .coprocessor % 4) 0
+
+-- the word that says ExcCode, BD 0 and CE
+abbrev pub fieldsOf : Exception → ℕ
+fieldsOf e = ceOf e * 2 ^ 28 + e .code % 2 ^ 5 * 2 ^ 2
+
+unfoldable pub causeOf : Exception → ℕ → ℕ
+causeOf e old = overlaidOf entryMask old (fieldsOf e)
+
+unfoldable pub badVAddrOf : Exception → ℕ → ℕ
+badVAddrOf e old = cond (among 1 5 (e .code)) (e .address) old
+
+unfoldable pub entryHiOf : Exception → ℕ → ℕ
+entryHiOf e old = cond (among 1 3 (e .code)) (overlaidOf pageMask old (e .address)) old
+
+unfoldable pub enteredOf : Exception → ℕ → Cp0 → Cp0
+enteredOf e pc c =
+    record {
+      index = c .index;
+      random = c .random;
+      «entry_hi» = entryHiOf e (c .«entry_hi»);
+      «entry_lo» = c .«entry_lo»;
+      «bad_vaddr» = badVAddrOf e (c .«bad_vaddr»);
+      status = pushedOf (record { word = c .status }) .word;
+      cause = causeOf e (c .cause);
+      epc = pc;
+    }
+
+-- "PC goes to 0x80 (BEV 0) or 0x1FC00180 (BEV 1); on a TLB miss to 0x0 or 0x1FC00100." BEV is bit 22 of Status.
+unfoldable pub vectorOf : ℕ → Bool → ℕ
+vectorOf status miss = cond miss (cond (bit 22 status) 0x1FC00100 0x0) (cond (bit 22 status) 0x1FC00180 0x80)
+
+-- "RFE moves previous to current and old to previous in both stacks; old stays."
+unfoldable pub returnedOf : Cp0 → Cp0
+returnedOf c = withRegister Status (poppedOf (record { word = c .status }) .word) c

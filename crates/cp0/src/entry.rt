@@ -1,0 +1,101 @@
+// Exception entry and RFE: what becomes of CP0, and where PC goes.
+ghost use mathlib.Core.Path.{_≡_};
+ghost use Rattle.cp0.specs.Entry.{among, entryHiOf, badVAddrOf, causeOf, enteredOf, vectorOf, returnedOf};
+use crate::registers::Cp0;
+use crate::status::Status;
+use word::map::has_bit;
+use word::mask::overlaid;
+
+// What an exception brings: `miss` where no entry of the table matched, the coprocessor for code 11, the address for codes 1 to 5.
+pub struct Exception {
+    pub code: u32,
+    pub miss: bool,
+    pub coprocessor: u32,
+    pub address: u32,
+}
+
+const COPROCESSOR_UNUSABLE: u32 = 11;
+
+// ExcCode, BD and CE.
+const ENTRY_FIELDS: u32 = 0xB000007C;
+
+// The top 20 bits.
+const PAGE: u32 = 0xFFFFF000;
+
+pub fn entered(c: Cp0, e: Exception, pc: u32) -> Cp0
+    ensures { λ r. ⌜ r ≡ enteredOf e pc c ⌝ }
+{
+    let status = Status { word: c.status };
+    let pushed = status.pushed();
+    Cp0 {
+        index: c.index,
+        random: c.random,
+        entry_hi: entry_hi(e, c.entry_hi),
+        entry_lo: c.entry_lo,
+        bad_vaddr: bad_vaddr(e, c.bad_vaddr),
+        status: pushed.word,
+        cause: cause(e, c.cause),
+        epc: pc,
+    }
+}
+
+fn among(first: u32, last: u32, code: u32) -> bool
+    ensures { λ r. ⌜ r ≡ among first last code ⌝ }
+{
+    (first <= code) & (code <= last)
+}
+
+fn entry_hi(e: Exception, old: u32) -> u32
+    ensures { λ r. ⌜ r ≡ entryHiOf e old ⌝ }
+{
+    if among(1, 3, e.code) {
+        return overlaid(PAGE, old, e.address);
+    }
+    old
+}
+
+fn bad_vaddr(e: Exception, old: u32) -> u32
+    ensures { λ r. ⌜ r ≡ badVAddrOf e old ⌝ }
+{
+    if among(1, 5, e.code) {
+        return e.address;
+    }
+    old
+}
+
+fn cause(e: Exception, old: u32) -> u32
+    ensures { λ r. ⌜ r ≡ causeOf e old ⌝ }
+{
+    let code = e.code % 32 * 4;
+    if e.code == COPROCESSOR_UNUSABLE {
+        return overlaid(ENTRY_FIELDS, old, e.coprocessor % 4 * 0x10000000 + code);
+    }
+    overlaid(ENTRY_FIELDS, old, code)
+}
+
+pub fn vector(status: u32, miss: bool) -> u32
+    ensures { λ r. ⌜ r ≡ vectorOf status miss ⌝ }
+{
+    let bev = has_bit(22, status);
+    if miss {
+        if bev {
+            return 0x1FC00100;
+        }
+        return 0x0;
+    }
+    if bev {
+        return 0x1FC00180;
+    }
+    0x80
+}
+
+// RFE.
+pub fn returned(c: Cp0) -> Cp0
+    ensures { λ r. ⌜ r ≡ returnedOf c ⌝ }
+{
+    let status = Status { word: c.status };
+    let popped = status.popped();
+    let mut after = c;
+    after.status = popped.word;
+    after
+}
