@@ -1,0 +1,10 @@
+pub mod Shown
+pub mod Delay
+pub mod Each
+pub mod LineKeeps
+pub mod Notes
+pub mod Passed
+pub mod Places
+pub mod PrinterKeeps
+pub mod Ticks
+pub mod Undo

@@ -1,0 +1,53 @@
+-- The tick printer by printer, and ticks one after another; a tick of printers that are not busy does nothing.
+use Prim.Native.Nat.{ℕ, zero, suc, _+_}
+use mathlib.Core.Path.{_≡_, refl, sym, ap}
+use mathlib.Core.Bool.{Bool, true, false, _||_, cond, false≢true}
+use mathlib.Core.List.{List}
+use native.Mathlib.Numerals.{add-one}
+use lib.ListN.{getD, set}
+use lib.Seq.{set-getD}
+use Rattle.printer.specs.declared.Printer.{Printer}
+use Rattle.printer.specs.Tick.{Printing, printing, noPrinter, isBusy, printerTicked, paperTicked, tickOne, ticks, tickedOf, someBusy, anyBusy, OneIs, waitedOf}
+use Rattle.word.specs.Map.{withBit}
+use Rattle.printer.specs.declared.tick.One.{One}
+
+-- neither of two
+pub neither : (a b : Bool) → (a || b) ≡ false → (a ≡ false) × (b ≡ false)
+neither false b e = (refl, e)
+neither true b e = absurd (false≢true (sym e))
+
+idle-one : (n : ℕ) (s : Printing) → isBusy (getD (s .line .printers) n noPrinter) ≡ false → tickOne n s ≡ s
+unfolding tickOne printerTicked paperTicked
+idle-one n s e =
+    rw e (ap (λ (l : List Printer). printing l (s .line .pending) (s .paper)) (set-getD (s .line .printers) n noPrinter))
+
+idle-ticks : (n : ℕ) (s : Printing) → someBusy n (s .line .printers) ≡ false → ticks n s ≡ s
+unfolding ticks someBusy
+idle-ticks zero s e = refl
+idle-ticks (suc n) s e =
+    let h = neither (someBusy n (s .line .printers)) (isBusy (getD (s .line .printers) n noPrinter)) e in
+    rw (idle-ticks n s (h .0)) (idle-one n s (h .1))
+
+-- where no printer is busy, a tick leaves all as it is
+pub idle-tick : (s : Printing) → anyBusy (s .line .printers) ≡ false → tickedOf s ≡ s
+idle-tick s e = idle-ticks 8 s e
+
+-- one turn of the loop over the printers
+pub tick-on : (n : ℕ) (s : Printing) (one : One) (map : ℕ) (after : List ℕ) →
+    OneIs n (getD (s .line .printers) n noPrinter) (s .paper) one after →
+    map ≡ cond (one .finished) (withBit n true (s .line .pending)) (s .line .pending) →
+    printing (set (s .line .printers) n (one .printer)) map after ≡ tickOne n s
+unfolding tickOne
+tick-on n s one map after is e = rw (e, is .printer-is, is .finished-is, is .paper-is)
+
+pub ticks-on : (n : ℕ) (s s₀ next : Printing) → s ≡ ticks n s₀ → next ≡ tickOne n s → next ≡ ticks (n + 1) s₀
+unfolding ticks
+ticks-on n s s₀ next e f = rw (f, e, add-one n)
+
+-- one turn of a loop that waits: it ticks, or no printer is busy
+pub wait-ticks : (n : ℕ) (s s₀ next : Printing) → s ≡ waitedOf n s₀ → next ≡ tickedOf s → next ≡ waitedOf (n + 1) s₀
+unfolding waitedOf
+wait-ticks n s s₀ next e f = rw (f, e, add-one n)
+
+pub wait-idles : (n : ℕ) (s s₀ : Printing) → s ≡ waitedOf n s₀ → anyBusy (s .line .printers) ≡ false → s ≡ waitedOf (n + 1) s₀
+wait-idles n s s₀ e idle = wait-ticks n s s₀ s e (sym (idle-tick s idle))

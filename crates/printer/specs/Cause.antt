@@ -1,0 +1,8 @@
+-- IP[6] is on exactly if the pending map is not 0.
+use Prim.Native.Nat.{ℕ}
+use mathlib.Core.Bool.{not}
+use lib.Dec.{eqb}
+use Rattle.cp0.specs.Interrupt.{lineOf}
+
+abbrev pub shownOf : ℕ → ℕ → ℕ
+shownOf pending cause = lineOf 6 (not (eqb pending 0)) cause

@@ -1,0 +1,148 @@
+// Step part 2: the tick of the printers. A run loop that keeps `any_busy` beside them as a local calls `tick` only while
+// one is busy: else nothing is copied and nothing is written (proofs/Ticks: idle-tick).
+ghost use mathlib.Core.Bool.{cond, true};
+ghost use mathlib.Core.Path.{_≡_};
+ghost use Prim.Native.Nat.{_<_, _≤_};
+ghost use lib.ListN.{length};
+ghost use Rattle.word.specs.Map.{withBit};
+ghost use Rattle.printer.specs.Tick.{
+  prints,
+  anyBusy,
+  endedWith,
+  finishedOf,
+  printerTicked,
+  paperTicked,
+  OneIs,
+  printing,
+  tickedOf,
+};
+use crate::BUSY;
+use crate::Line;
+use crate::PRINT_ERROR;
+use crate::PRINTCHR;
+use crate::Printer;
+use crate::READY;
+use word::map::with_bit;
+
+// The tick of one printer, its byte on paper aside.
+pub struct One {
+    pub printer: Printer,
+    pub finished: bool,
+}
+
+fn ended_with(status: u32, count: u32, p: Printer) -> Printer
+    ensures { λ r. ⌜ r ≡ endedWith status count p ⌝ }
+{
+    Printer {
+        status,
+        command: p.command,
+        data0: p.data0,
+        left: 0,
+        count,
+    }
+}
+
+fn finished(room: usize, p: Printer) -> Printer
+    requires { ⌜ room ≤ 8192 ⌝ }
+    ensures { λ r. ⌜ r ≡ finishedOf room p ⌝ }
+{
+    let count = p.count;
+    if p.command != PRINTCHR {
+        return ended_with(READY, count, p);
+    }
+    if room <= count as usize {
+        return ended_with(PRINT_ERROR, count, p);
+    }
+    ended_with(READY, count + 1, p)
+}
+
+// Whether the printer writes a byte in this step.
+pub fn prints(room: usize, p: Printer) -> bool
+    ensures { λ r. ⌜ r ≡ prints room p ⌝ }
+{
+    ((p.status == BUSY) & (p.left <= 1)) & ((p.command == PRINTCHR) & ((p.count as usize) < room))
+}
+
+// A printer that finishes, with its byte.
+fn finish(n: usize, p: Printer, paper: &mut [u8])
+    requires { ⌜ n < 8 ⌝ }
+    ensures { λ r. ⌜ now (paper .exit) ≡ paperTicked n p (now (paper .entry)) ⌝ }
+{
+    let room = paper.len() / 8;
+    if prints(room, p) {
+        paper[n * room + p.count as usize] = (p.data0 % 256) as u8;
+    }
+}
+
+fn tick_one(n: usize, p: Printer, paper: &mut [u8]) -> One
+    requires { ⌜ (n < 8) × (length (now paper) ≤ 65536) ⌝ }
+    ensures { λ r. ⌜ OneIs n p (now (paper .entry)) r (now (paper .exit)) ⌝ }
+{
+    if p.status != BUSY {
+        return One {
+            printer: p,
+            finished: false,
+        };
+    }
+    if 1 < p.left {
+        return One {
+            printer: Printer {
+                status: p.status,
+                command: p.command,
+                data0: p.data0,
+                left: p.left - 1,
+                count: p.count,
+            },
+            finished: false,
+        };
+    }
+    let room = paper.len() / 8;
+    finish(n, p, paper);
+    One {
+        printer: finished(room, p),
+        finished: true,
+    }
+}
+
+fn pending_on(n: usize, finished: bool, pending: u32) -> u32
+    requires { ⌜ n < 8 ⌝ }
+    ensures { λ r. ⌜ r ≡ cond finished (withBit n true pending) pending ⌝ }
+{
+    if finished {
+        return with_bit(n, true, pending);
+    }
+    pending
+}
+
+pub fn tick(printers: [Printer; 8], pending: u32, paper: &mut [u8]) -> Line
+    requires { ⌜ length (now paper) ≤ 65536 ⌝ }
+    ensures { λ r. ⌜
+        printing (r .printers) (r .pending) (now (paper .exit))
+        ≡ tickedOf (printing printers pending (now (paper .entry)))
+        ⌝ }
+{
+    let mut all = printers;
+    let mut map = pending;
+    for n in 0..8 {
+        let p = all[n];
+        let one = tick_one(n, p, paper);
+        let next = one.printer;
+        all[n] = next;
+        map = pending_on(n, one.finished, map);
+    }
+    Line {
+        printers: all,
+        pending: map,
+    }
+}
+
+pub fn any_busy(printers: [Printer; 8]) -> bool
+    ensures { λ r. ⌜ r ≡ anyBusy printers ⌝ }
+{
+    let mut some = false;
+    for n in 0..8 {
+        let p = printers[n];
+        some = some | (p.status == BUSY);
+    }
+    some
+}
