@@ -1,0 +1,4 @@
+pub mod Offset
+pub mod Words
+pub mod Store
+pub mod Stored
