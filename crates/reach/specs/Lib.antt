@@ -1,0 +1,6 @@
+pub mod Codes
+pub mod Access
+pub mod Check
+pub mod Translate
+pub mod Bus
+pub mod Reach

@@ -1,0 +1,28 @@
+-- Document 01, "Addresses": alignment, then privilege, then translation, then the bus. The answer says where the access lands or which
+-- exception it is.
+use mathlib.Core.Bool.{cond, false, _&&_}
+use mathlib.Core.List.{List}
+use Prim.Native.Nat.{ℕ}
+use Rattle.board.specs.Places.{mappedOf}
+use Rattle.board.specs.declared.places.Sizes.{Sizes}
+use Rattle.cp0.specs.declared.privilege.Mode.{Mode}
+use Rattle.tlb.specs.declared.Row.{Row}
+use Rattle.reach.specs.Check.{addressError, alignedOf, allowedOf}
+use Rattle.reach.specs.Translate.{translatedOf}
+use Rattle.reach.specs.Bus.{landsOf}
+use Rattle.reach.specs.declared.access.Access.{Access}
+use Rattle.reach.specs.declared.translate.Translated.{Translated}
+use Rattle.reach.specs.declared.translate.Translated.the-variants.{To, Raises}
+use Rattle.reach.specs.declared.Reached.{Reached}
+use Rattle.reach.specs.declared.Reached.the-variants.{Exception}
+
+abbrev pub busAfter : Access → Sizes → Translated → Reached
+busAfter access sizes (To p) = landsOf (access .kind) (access .width) (mappedOf sizes p)
+busAfter access sizes (Raises code miss) = Exception code miss
+
+-- t is the table, entry the EntryHi register
+unfoldable pub reachOf : Mode → Access → Sizes → ℕ → List Row → ℕ → Reached
+reachOf mode access sizes a t entry =
+    cond (alignedOf (access .width) a && allowedOf mode a)
+    (busAfter access sizes (translatedOf mode (access .kind) a t entry))
+    (Exception (addressError (access .kind)) false)
