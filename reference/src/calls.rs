@@ -1,0 +1,131 @@
+//! Reset and run, with their refusals.
+
+use crate::answer::{Answer, BUDGET_SPENT, EXCEPTION, NO_REASON};
+use crate::image::{decode, encode, IMAGE_BYTES};
+use crate::machine::Machine;
+use crate::memory::Memory;
+use crate::printer::READY;
+use crate::record::{NoRecord, Recorder};
+use crate::rules::keeps_rules;
+use crate::sizes::{
+    budget_fits, installed_fits, journal_fits, paper_fits, printer_delay_fits, ram_fits,
+    record_slots, rom_fits, time_scale_fits, RECORD_BYTES,
+};
+use crate::status::Status;
+use crate::step::step;
+
+pub fn reset(image: &mut [u8], time_scale: u64, printer_delay: u64, installed: u64) -> Answer {
+    if image.len() != IMAGE_BYTES {
+        return Answer::refused(5);
+    }
+    if !(time_scale_fits(time_scale)
+        && printer_delay_fits(printer_delay)
+        && installed_fits(installed))
+    {
+        return Answer::refused(6);
+    }
+    let mut machine = Machine {
+        pc: 0x1FC0_0000,
+        next_pc: 0x1FC0_0004,
+        status: Status(0x1040_0000),
+        random: 15 << 8,
+        timer: 0xFFFF_FFFF,
+        time_scale: time_scale as u32,
+        printer_delay: printer_delay as u32,
+        installed: installed as u32,
+        ..Machine::default()
+    };
+    for (number, printer) in machine.printers.iter_mut().enumerate() {
+        if installed >> number & 1 != 0 {
+            printer.status = READY;
+        }
+    }
+    encode(&machine, image);
+    Answer::done(NO_REASON, 0)
+}
+
+/// Run without records: on hand and next slot move, the journal's bytes stay.
+#[allow(clippy::too_many_arguments)]
+pub fn run(
+    image: &mut [u8],
+    execution_rom: &[u8],
+    bootstrap_rom: &[u8],
+    ram: &mut [u8],
+    paper: &mut [u8],
+    journal: &mut [u8],
+    budget: u64,
+    stop_at_exceptions: u64,
+) -> Answer {
+    let memory = Memory { execution_rom, bootstrap_rom, ram, paper };
+    run_recorded(image, memory, journal, budget, stop_at_exceptions, &mut NoRecord)
+}
+
+/// Run with a writer of journal records.
+pub fn run_recorded<R: Recorder>(
+    image: &mut [u8],
+    mut memory: Memory,
+    journal: &mut [u8],
+    budget: u64,
+    stop_at_exceptions: u64,
+    recorder: &mut R,
+) -> Answer {
+    let refusal = run_refusal(image, &memory, journal.len(), budget);
+    if refusal != 0 {
+        return Answer::refused(refusal);
+    }
+    let mut machine = decode(image);
+    let stops = stop_at_exceptions != 0;
+    let budget = budget as u32;
+    let mut steps = 0;
+    let reason = loop {
+        if steps == budget {
+            break BUDGET_SPENT;
+        }
+        recorder.before_step(&machine);
+        let entered = step(&mut machine, &mut memory, recorder);
+        let record = claim_slot(&mut machine, journal);
+        recorder.after_step(&machine, record);
+        steps += 1;
+        if entered && stops {
+            break EXCEPTION;
+        }
+    };
+    encode(&machine, image);
+    Answer::done(reason, steps)
+}
+
+fn run_refusal(image: &[u8], memory: &Memory, journal_len: usize, budget: u64) -> u8 {
+    if !ram_fits(memory.ram.len()) {
+        1
+    } else if !(rom_fits(memory.execution_rom.len()) && rom_fits(memory.bootstrap_rom.len())) {
+        2
+    } else if !paper_fits(memory.paper.len()) {
+        3
+    } else if !journal_fits(journal_len) {
+        4
+    } else if !keeps_rules(image, memory.paper.len(), journal_len) {
+        5
+    } else if !budget_fits(budget) {
+        6
+    } else {
+        0
+    }
+}
+
+/// Moves on hand and next slot on, and lends the slot that the step has taken.
+#[inline]
+fn claim_slot<'a>(machine: &mut Machine, journal: &'a mut [u8]) -> Option<&'a mut [u8]> {
+    let slots = record_slots(journal.len()) as u32;
+    if slots == 0 {
+        return None;
+    }
+    let start = machine.next_slot as usize * RECORD_BYTES;
+    machine.next_slot += 1;
+    if machine.next_slot == slots {
+        machine.next_slot = 0;
+    }
+    if machine.on_hand < slots {
+        machine.on_hand += 1;
+    }
+    journal.get_mut(start..start + RECORD_BYTES)
+}

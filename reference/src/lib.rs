@@ -1,0 +1,40 @@
+//! A plain emulator of the machine of document 01, written from that paper,
+//! the manual and the MIPS I instruction set only. It is the yardstick for
+//! other emulators of the same machine, in results and in speed.
+
+mod address;
+mod alu;
+mod answer;
+mod branch;
+mod bus;
+mod calls;
+mod clock;
+mod cp0;
+mod exception;
+mod execute;
+mod history;
+mod image;
+mod load_store;
+mod machine;
+mod memory;
+mod printer;
+mod record;
+mod rom;
+mod rules;
+mod sizes;
+mod status;
+mod step;
+mod tlb;
+mod word;
+
+pub use answer::{Answer, BUDGET_SPENT, EXCEPTION, NO_REASON};
+pub use calls::{reset, run, run_recorded};
+pub use history::History;
+pub use image::{decode, encode, IMAGE_BYTES};
+pub use machine::{Entry, Machine, Printer};
+pub use memory::Memory;
+pub use record::{NoRecord, Recorder};
+pub use rom::{rom_answer, rom_window};
+pub use rules::keeps_rules;
+pub use status::Status;
+pub use step::step;

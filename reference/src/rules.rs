@@ -1,0 +1,75 @@
+//! The rules of the state image.
+
+use crate::cp0::{ENTRY_HI_MASK, ENTRY_LO_MASK};
+use crate::exception::{CAUSE_MASK, EXC_CODE_SHIFT, HIGHEST_CODE, IP_PRINTERS};
+use crate::image::{decode, head, IMAGE_BYTES, LENGTH_WORD, VERSION};
+use crate::machine::{Machine, Printer};
+use crate::printer::{BUSY, PRINTCHR, RESET};
+use crate::sizes::{installed_fits, printer_delay_fits, record_slots, time_scale_fits};
+use crate::status;
+
+const INDEX_MASK: u32 = 0x8000_3F00;
+
+/// IP[3], IP[4], IP[5] and IP[7]: lines without a device.
+const IP_EMPTY_LINES: u32 = 0xB800;
+
+/// Whether an image keeps the rules, with paper and journal of these lengths.
+pub fn keeps_rules(image: &[u8], paper_len: usize, journal_len: usize) -> bool {
+    image.len() == IMAGE_BYTES
+        && head(image) == (LENGTH_WORD, VERSION)
+        && machine_keeps_rules(&decode(image), paper_len, journal_len)
+}
+
+fn machine_keeps_rules(machine: &Machine, paper_len: usize, journal_len: usize) -> bool {
+    cp0_keeps_rules(machine)
+        && time_scale_fits(machine.time_scale.into())
+        && printer_delay_fits(machine.printer_delay.into())
+        && installed_fits(machine.installed.into())
+        && machine.pending & !machine.installed == 0
+        && (0..8).all(|number| printer_keeps_rules(machine, number, paper_len))
+        && journal_place_keeps_rules(machine, record_slots(journal_len))
+}
+
+fn cp0_keeps_rules(machine: &Machine) -> bool {
+    machine.status.0 & !status::MASK == 0
+        && cause_keeps_rules(machine)
+        && machine.index & !INDEX_MASK == 0
+        && machine.random & 0xFF == 0
+        && (1..=15).contains(&(machine.random >> 8))
+        && machine.entry_hi & !ENTRY_HI_MASK == 0
+        && machine.entry_lo & !ENTRY_LO_MASK == 0
+        && machine
+            .tlb
+            .iter()
+            .all(|entry| entry.high & !ENTRY_HI_MASK == 0 && entry.low & !ENTRY_LO_MASK == 0)
+}
+
+fn cause_keeps_rules(machine: &Machine) -> bool {
+    let cause = machine.cause;
+    cause & !CAUSE_MASK == 0
+        && cause >> EXC_CODE_SHIFT & 31 <= HIGHEST_CODE
+        && (cause & IP_PRINTERS != 0) == (machine.pending != 0)
+        && cause & IP_EMPTY_LINES == 0
+}
+
+fn printer_keeps_rules(machine: &Machine, number: usize, paper_len: usize) -> bool {
+    let printer = &machine.printers[number];
+    if machine.installed >> number & 1 == 0 {
+        return *printer == Printer::default();
+    }
+    let pending = machine.pending >> number & 1 != 0;
+    let ticks_fit = if printer.status == BUSY {
+        (1..=machine.printer_delay).contains(&printer.ticks_left)
+            && !pending
+            && (printer.command == RESET || printer.command == PRINTCHR)
+    } else {
+        printer.ticks_left == 0
+    };
+    (1..=4).contains(&printer.status) && ticks_fit && printer.paper_count as usize <= paper_len / 8
+}
+
+fn journal_place_keeps_rules(machine: &Machine, slots: usize) -> bool {
+    let next_slot = machine.next_slot as usize;
+    let next_slot_fits = if slots == 0 { next_slot == 0 } else { next_slot < slots };
+    machine.on_hand as usize <= slots && next_slot_fits
+}

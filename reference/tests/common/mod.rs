@@ -1,0 +1,176 @@
+//! A machine with its lent buffers, set up for a few steps.
+#![allow(dead_code)]
+
+pub mod asm;
+pub mod dice;
+pub mod states;
+
+use reference::{decode, encode, keeps_rules, reset, Answer, Machine, Status, IMAGE_BYTES};
+
+pub const RAM: u32 = 0x2000_0000;
+pub const BUS: u32 = 0x1000_0000;
+pub const BOOT: u32 = 0x1FC0_0000;
+
+pub const KERNEL: u32 = 0x1000_0000;
+pub const USER: u32 = 0x0000_0002;
+pub const VM: u32 = 0x0100_0000;
+
+pub const VALID: u32 = 0x200;
+pub const DIRTY: u32 = 0x400;
+pub const GLOBAL: u32 = 0x100;
+
+pub const TIMER: u32 = 0x20;
+pub const DELAY: u32 = 3;
+
+/// Offset of a printer's device register in the device area.
+pub const fn printer(number: u32) -> u32 {
+    0x50 + 3 * 0x80 + number * 0x10
+}
+
+#[derive(Clone)]
+pub struct Bench {
+    pub machine: Machine,
+    pub execution: Vec<u8>,
+    pub bootstrap: Vec<u8>,
+    pub ram: Vec<u8>,
+    pub paper: Vec<u8>,
+    pub journal: Vec<u8>,
+}
+
+/// Everything lent, as the host would compare it.
+impl PartialEq for Bench {
+    fn eq(&self, other: &Bench) -> bool {
+        self.image() == other.image()
+            && self.execution == other.execution
+            && self.bootstrap == other.bootstrap
+            && self.ram == other.ram
+            && self.paper == other.paper
+            && self.journal == other.journal
+    }
+}
+
+/// The state alone; the buffers would bury it.
+impl std::fmt::Debug for Bench {
+    fn fmt(&self, to: &mut std::fmt::Formatter) -> std::fmt::Result {
+        self.machine.fmt(to)
+    }
+}
+
+/// An image as reset leaves it: scale 1, delay 3, printers 0 and 2.
+pub fn reset_image() -> Vec<u8> {
+    let mut image = vec![0xEE; IMAGE_BYTES];
+    assert_eq!(reset(&mut image, 1, DELAY.into(), 5).packed(), 0);
+    image
+}
+
+pub fn put_words(bytes: &mut [u8], at: usize, words: &[u32]) {
+    for (number, word) in words.iter().enumerate() {
+        let place = at + number * 4;
+        bytes[place..place + 4].copy_from_slice(&word.to_le_bytes());
+    }
+}
+
+impl Bench {
+    /// Kernel mode, vectors in the execution ROM, PC at RAM's start, and
+    /// register 8 the base of the device area, 9 that of RAM.
+    pub fn new() -> Bench {
+        let mut machine = decode(&reset_image());
+        machine.status = Status(KERNEL);
+        machine.pc = RAM;
+        machine.next_pc = RAM + 4;
+        machine.registers[8] = BUS;
+        machine.registers[9] = RAM;
+        Bench {
+            machine,
+            execution: vec![0; 0x200],
+            bootstrap: vec![0; 0x200],
+            ram: vec![0; 0x2000],
+            paper: vec![0; 32],
+            journal: vec![0; 4 * 256],
+        }
+    }
+
+    pub fn with(words: &[u32]) -> Bench {
+        let mut bench = Bench::new();
+        put_words(&mut bench.ram, 0, words);
+        bench
+    }
+
+    pub fn status(mut self, bits: u32) -> Bench {
+        self.machine.status = Status(bits);
+        self
+    }
+
+    pub fn register(mut self, number: usize, value: u32) -> Bench {
+        self.machine.registers[number] = value;
+        self
+    }
+
+    pub fn pc(mut self, pc: u32) -> Bench {
+        self.machine.pc = pc;
+        self.machine.next_pc = pc.wrapping_add(4);
+        self
+    }
+
+    pub fn entry(mut self, number: usize, high: u32, low: u32) -> Bench {
+        self.machine.tlb[number].high = high;
+        self.machine.tlb[number].low = low;
+        self
+    }
+
+    pub fn image(&self) -> Vec<u8> {
+        let mut image = vec![0; IMAGE_BYTES];
+        encode(&self.machine, &mut image);
+        image
+    }
+
+    /// Runs and takes the image over, which has to keep the rules.
+    pub fn run_with(&mut self, budget: u64, stop: u64) -> Answer {
+        let mut image = self.image();
+        let answer = reference::run(
+            &mut image,
+            &self.execution,
+            &self.bootstrap,
+            &mut self.ram,
+            &mut self.paper,
+            &mut self.journal,
+            budget,
+            stop,
+        );
+        if answer.number == 0 {
+            assert!(keeps_rules(&image, self.paper.len(), self.journal.len()));
+        }
+        self.machine = decode(&image);
+        answer
+    }
+
+    /// Runs so many steps, all without an exception.
+    pub fn run(mut self, steps: u64) -> Bench {
+        let answer = self.run_with(steps, 1);
+        assert_eq!((answer.number, answer.reason, u64::from(answer.steps)), (0, 1, steps));
+        self
+    }
+
+    /// Runs to an exception, which has to come in this very step.
+    pub fn trap(mut self, steps: u64) -> Bench {
+        let answer = self.run_with(steps, 1);
+        assert_eq!((answer.number, answer.reason, u64::from(answer.steps)), (0, 2, steps));
+        self
+    }
+
+    pub fn reg(&self, number: usize) -> u32 {
+        self.machine.registers[number]
+    }
+
+    pub fn code(&self) -> u32 {
+        self.machine.cause >> 2 & 31
+    }
+
+    pub fn ce(&self) -> u32 {
+        self.machine.cause >> 28 & 3
+    }
+
+    pub fn ram_word(&self, place: usize) -> u32 {
+        u32::from_le_bytes(self.ram[place..place + 4].try_into().unwrap())
+    }
+}
