@@ -2,7 +2,7 @@
 use Prim.{tt}
 use Prim.Native.Nat.{ℕ, zero, suc, _≤_, _<_}
 use mathlib.Core.Path.{_≡_, refl}
-use mathlib.Core.Bool.{Bool, true, false, not, cond, _&&_}
+use mathlib.Core.Bool.{Bool, true, false, cond, _&&_}
 use native.Mathlib.Omega.{arith}
 use borrow.Author.Tests.{eqb-true}
 use lib.Dec.{eqb}
@@ -66,8 +66,7 @@ uninstalled-reads-0 b installed delay room line offset k device off =
     let n = numberOf offset in
     let p = getD (line .printers) n noPrinter in
     let keeps = rw off at (k .each n (omega arith)) in
-    let absent = both (absentKeeps p) (not (bit n (line .pending))) keeps .0 in
-    rw device (by (eqb (lineOf offset) 6) (zeros p (fieldOf offset) absent (omega arith)))
+    rw device (by (eqb (lineOf offset) 6) (zeros p (fieldOf offset) keeps (omega arith)))
   where
     by : (ours : Bool) {x : ℕ} → x ≡ 0 → cond ours x 0 ≡ 0
     by true e = e

@@ -1,36 +1,79 @@
 -- The line keeps its rules over a tick and over every write.
-use Prim.Native.Nat.{ℕ, _-_, _^_, _≤_, _<_}
+use Prim.Native.Nat.{ℕ, _-_, _%_, _^_, _≤_, _<_}
 use mathlib.Core.Path.{_≡_, refl, sym, subst, _∙_}
-use mathlib.Core.Bool.{Bool, true, false, not, cond, false≢true}
+use mathlib.Core.Bool.{Bool, true, false, not, cond}
 use native.Mathlib.Decide.{ℕ-discrete, decLt}
-use native.Mathlib.Nat.{div-eq-of-lt, lt-of-lt-of-le}
+use native.Mathlib.Nat.{mod-eq-of-lt, lt-of-le-of-lt}
 use native.Mathlib.Omega.{arith}
-use borrow.Author.Tests.{not-true, ltb-true, lt-ltb}
-use lib.Bits.{bitAnd}
-use lib.Dec.{ltb}
-use lib.Pow.{pow-mono}
+use borrow.Author.Tests.{not-true, eqb-true, eq-eqb}
+use lib.Bits.{bitAnd, and-mod, and-le-r, and-zero-r}
+use lib.Dec.{leb}
 use lib.ListN.{length, getD, set, length-set}
 use lib.Seq.{getD-set-same, getD-set-other}
 use Rattle.word.specs.Lists.{every}
-use Rattle.word.proofs.Cond.{both}
+use Rattle.word.specs.Map.{bit, withBit}
+use Rattle.word.proofs.BitLaws.{low-bit}
+use Rattle.word.proofs.Cond.{both, and-true}
+use Rattle.word.proofs.Maps.{bit-told, bit-other, bit-kept}
+use Rattle.word.proofs.Within.{within-masked, masked-within}
 use Rattle.printer.specs.declared.Printer.{Printer}
 use Rattle.printer.specs.declared.Line.{Line}
-use Rattle.word.specs.Map.{bit, withBit}
-use Rattle.printer.specs.Tick.{Printing, noPrinter, isBusy, roomOf, tickedOf}
+use Rattle.printer.specs.Tick.{Printing, noPrinter, isBusy, finishes, roomOf, tickedOf}
 use Rattle.printer.specs.Command.{isIllegal, commandedOf, withData, takesWrites, commandOf, dataOf}
-use Rattle.printer.specs.Rules.{absentKeeps, printerKeeps, printerKeepsAt, Keeps, lineKeeps}
+use Rattle.printer.specs.Rules.{within, printerKeeps, printerKeepsAt, Keeps, lineKeeps}
 use Rattle.printer.proofs.Each.{all-hold, each-holds}
-use Rattle.word.proofs.Maps.{bit-told, bit-other, bit-kept, with-small}
-use Rattle.printer.proofs.Passed.{old, room-ticks, length-printers, passed, pending-passed, pending-small}
-use Rattle.word.proofs.Within.{within-masked}
-use Rattle.printer.proofs.PrinterKeeps.{Present, present, ticked-keeps, commanded-keeps, with-data-keeps}
+use Rattle.printer.proofs.Passed.{old, room-ticks, length-printers, passed, pending-before, pending-passed}
+use Rattle.printer.proofs.PrinterKeeps.{Present, present, absent-idle, ticked-keeps, commanded-keeps, with-data-keeps}
+
+-- ---- the pending map stays within the installed map
+
+-- what decides is the map's low 32 bits
+low-word : (m x : ℕ) → bitAnd x (0xFFFFFFFF - m) ≡ bitAnd (x % 2 ^ 32) (0xFFFFFFFF - m)
+low-word m x =
+    let c = 0xFFFFFFFF - m in
+    let small : c < 2 ^ 32 = omega arith in
+    sym (mod-eq-of-lt (lt-of-le-of-lt (and-le-r x c) small)) ∙ and-mod x c 32 ∙ rw (mod-eq-of-lt small)
+
+-- a map whose bits are each the old one's or an installed device's
+still-owned : (m x y : ℕ) → within m x ≡ true →
+    ((k : ℕ) → (bit k x ≡ true → bit k m ≡ true) → bit k y ≡ true → bit k m ≡ true) → within m y ≡ true
+still-owned m x y e new =
+    elim (decLt m (2 ^ 32)) [
+      | yes word ↦
+          let old = masked-within 32 m x word (eqb-true (bitAnd x (0xFFFFFFFF - m)) 0 e) in
+          eq-eqb (bitAnd y (0xFFFFFFFF - m)) 0
+          (low-word m y ∙ within-masked 32 m (y % 2 ^ 32) word (omega arith) (λ k h on. new k (old k h) (sym (low-bit 32 k y h) ∙ on)))
+      | no beyond ↦
+          let all : 0xFFFFFFFF - m ≡ 0 = omega arith in
+          eq-eqb (bitAnd y (0xFFFFFFFF - m)) 0 (rw (all, and-zero-r y))
+    ]
+
+-- a printer that finishes is busy, so it is installed
+finisher-here : (installed pending : Bool) (delay room : ℕ) (p : Printer) → printerKeeps installed pending delay room p ≡ true →
+    finishes p ≡ true → installed ≡ true
+unfolding printerKeeps
+finisher-here true pending delay room p k f = refl
+finisher-here false pending delay room p k f = absurd (absent-idle p k (both (isBusy p) (leb (p .left) 1) f .0))
+
+-- a bit that is on after the tick was on before, or its printer finished
+ticked-owned : (installed delay : ℕ) (s : Printing) → Keeps installed delay (roomOf (s .paper)) (s .line) → (n : ℕ) →
+    (bit n (s .line .pending) ≡ true → bit n installed ≡ true) → bit n (tickedOf s .line .pending) ≡ true → bit n installed ≡ true
+ticked-owned installed delay s k n was on =
+    elim (decLt n 8) [
+      | yes low ↦ go low (finishes (old s n)) refl (sym (pending-passed s 8 n low) ∙ on)
+      | no high ↦ was (sym (pending-before s 8 n (omega arith)) ∙ on)
+    ]
+  where
+    go : n < 8 → (done : Bool) → finishes (old s n) ≡ done → cond done true (bit n (s .line .pending)) ≡ true → bit n installed ≡ true
+    go low true e on = finisher-here (bit n installed) (bit n (s .line .pending)) delay (roomOf (s .paper)) (old s n) (k .each n low) e
+    go low false e on = was on
 
 -- A tick keeps the rules.
 pub tick-keeps : (installed delay : ℕ) (s : Printing) → Keeps installed delay (roomOf (s .paper)) (s .line) →
     Keeps installed delay (roomOf (tickedOf s .paper)) (tickedOf s .line)
 tick-keeps installed delay s k = record {
   eight = length-printers s 8 ∙ k .eight;
-  small = pending-small s 8 (omega arith) (k .small);
+  owned = still-owned installed (s .line .pending) (tickedOf s .line .pending) (k .owned) (ticked-owned installed delay s k);
   each = λ n h.
       let inside : n < length (s .line .printers) = rw (k .eight) h in
       rw (room-ticks s 8, passed s 8 n h inside, pending-passed s 8 n h)
@@ -40,15 +83,20 @@ tick-keeps installed delay s k = record {
 -- ---- a write to printer n
 
 module _ (installed delay room n : ℕ) (line : Line) (k : Keeps installed delay room line) (in-line : n < 8) where
-  -- the printer and its pending bit anew, the others as they were
-  one-anew : (p : Printer) (on : Bool) → printerKeeps (bit n installed) on delay room p ≡ true →
+  -- an installed printer and its pending bit anew, the others as they were
+  one-anew : (p : Printer) (on : Bool) → bit n installed ≡ true → printerKeeps (bit n installed) on delay room p ≡ true →
       Keeps installed delay room (record { printers = set (line .printers) n p; pending = withBit n on (line .pending) })
-  one-anew p on h = record {
+  one-anew p on here h = record {
     eight = length-set (line .printers) n p ∙ k .eight;
-    small = with-small n 8 on (line .pending) in-line (k .small);
+    owned = still-owned installed (line .pending) (withBit n on (line .pending)) (k .owned) (λ m was now. bits m was now (ℕ-discrete m n));
     each = λ m l. by m l (ℕ-discrete m n);
   }
     where
+      bits : (m : ℕ) → (bit m (line .pending) ≡ true → bit m installed ≡ true) → bit m (withBit n on (line .pending)) ≡ true → Dec (m ≡ n) →
+          bit m installed ≡ true
+      bits m was now (yes e) = rw e here
+      bits m was now (no ne) = was (sym (bit-other n m on (line .pending) ne) ∙ now)
+
       by : (m : ℕ) → m < 8 → Dec (m ≡ n) →
           printerKeeps (bit m installed) (bit m (withBit n on (line .pending))) delay room (getD (set (line .printers) n p) m noPrinter) ≡ true
       by m l (yes e) =
@@ -78,7 +126,7 @@ module _ (installed delay room n : ℕ) (line : Line) (k : Keeps installed delay
       go false e = k
       go true e =
           let t = taker e in
-          one-anew (commandedOf delay word p) (isIllegal word)
+          one-anew (commandedOf delay word p) (isIllegal word) (t .0)
           (rw (t .0) (commanded-keeps (bit n (line .pending)) delay room p (t .2) (t .1) word some))
 
   -- A write of DATA0 keeps the rules.
@@ -91,7 +139,7 @@ module _ (installed delay room n : ℕ) (line : Line) (k : Keeps installed delay
       go false e = k
       go true e =
           let t = taker e in
-          let anew = one-anew (withData word p) (bit n (line .pending)) (rw (t .0) (with-data-keeps (bit n (line .pending)) delay room p (t .2) (t .1) word)) in
+          let anew = one-anew (withData word p) (bit n (line .pending)) (t .0) (rw (t .0) (with-data-keeps (bit n (line .pending)) delay room p (t .2) (t .1) word)) in
           subst (λ (pending : ℕ). Keeps installed delay room (record { printers = set (line .printers) n (withData word p); pending = pending }))
           (bit-kept n (line .pending)) anew
 
@@ -100,32 +148,13 @@ module _ (installed delay room n : ℕ) (line : Line) (k : Keeps installed delay
 pub tested : (installed delay room : ℕ) (line : Line) → length (line .printers) ≡ 8 → lineKeeps installed delay room line ≡ true → Keeps installed delay room line
 unfolding lineKeeps
 tested installed delay room line eight e =
-    let h = both (ltb (line .pending) 256) (every 8 (printerKeepsAt installed delay room line)) e in
-    record { eight = eight; small = ltb-true (line .pending) 256 (h .0); each = each-holds 8 (printerKeepsAt installed delay room line) (h .1) }
+    let h = both (within installed (line .pending)) (every 8 (printerKeepsAt installed delay room line)) e in
+    record { eight = eight; owned = h .0; each = each-holds 8 (printerKeepsAt installed delay room line) (h .1) }
 
 pub kept-tests : (installed delay room : ℕ) (line : Line) → Keeps installed delay room line → lineKeeps installed delay room line ≡ true
 unfolding lineKeeps
-kept-tests installed delay room line k =
-    rw (lt-ltb (line .pending) 256 (k .small)) (all-hold 8 (printerKeepsAt installed delay room line) (k .each))
+kept-tests installed delay room line k = and-true (k .owned) (all-hold 8 (printerKeepsAt installed delay room line) (k .each))
 
--- ---- the pending map lies within the installed map
-
--- an uninstalled printer is not pending
-owned : (delay room : ℕ) (p : Printer) (installed : Bool) → printerKeeps installed true delay room p ≡ true → installed ≡ true
-unfolding printerKeeps
-owned delay room p true e = refl
-owned delay room p false e = absurd (false≢true (both (absentKeeps p) false e .1))
-
--- a map of eight bits has no higher one
-high-off : (k x : ℕ) → x < 2 ^ 8 → 8 ≤ k → bit k x ≡ false
-high-off k x small h = rw (div-eq-of-lt {n = x} {m = 2 ^ k} (lt-of-lt-of-le small (pow-mono h)))
-
-pub pending-within : (installed delay room : ℕ) (line : Line) → installed < 2 ^ 32 → Keeps installed delay room line →
-    bitAnd (line .pending) (0xFFFFFFFF - installed) ≡ 0
-pending-within installed delay room line word k =
-    let small = k .small in
-    within-masked 32 installed (line .pending) word (omega arith) (λ n h on.
-    elim (decLt n 8) [
-      | yes low ↦ owned delay room (getD (line .printers) n noPrinter) (bit n installed) (rw on at (k .each n low))
-      | no high ↦ absurd (false≢true (sym (high-off n (line .pending) small (omega arith)) ∙ on))
-    ])
+-- the pending map lies within the installed map
+pub pending-within : (installed delay room : ℕ) (line : Line) → Keeps installed delay room line → bitAnd (line .pending) (0xFFFFFFFF - installed) ≡ 0
+pending-within installed delay room line k = eqb-true (bitAnd (line .pending) (0xFFFFFFFF - installed)) 0 (k .owned)

@@ -30,11 +30,10 @@ unfolding presentKeeps
 idle-keeps pending delay room p s i l c = and-true (and-true s (rw i l)) c
 
 -- an uninstalled printer is not busy
-absent-idle : (p : Printer) (pending : Bool) → (absentKeeps p && not pending) ≡ true → isBusy p ≡ true → ⊥
-absent-idle p pending k busy =
+pub absent-idle : (p : Printer) → absentKeeps p ≡ true → isBusy p ≡ true → ⊥
+absent-idle p k busy =
     let zeros = eqb (p .status) 0 && eqb (p .command) 0 && eqb (p .data0) 0 && eqb (p .left) 0 in
-    let h = both (absentKeeps p) (not pending) k .0 in
-    let h₁ = both zeros (eqb (p .count) 0) h .0 in
+    let h₁ = both zeros (eqb (p .count) 0) k .0 in
     let h₂ = both (eqb (p .status) 0 && eqb (p .command) 0 && eqb (p .data0) 0) (eqb (p .left) 0) h₁ .0 in
     let h₃ = both (eqb (p .status) 0 && eqb (p .command) 0) (eqb (p .data0) 0) h₂ .0 in
     let none : p .status ≡ 0 = eqb-true (p .status) 0 (both (eqb (p .status) 0) (eqb (p .command) 0) h₃ .0) in
@@ -72,14 +71,14 @@ module _ (delay room : ℕ) (p : Printer) where
   unfolding printerKeeps printerTicked
   ticked-keeps installed pending k = go installed k (isBusy p) refl (leb (p .left) 1) refl
     where
-      go : (here : Bool) → cond here (presentKeeps pending delay room p) (absentKeeps p && not pending) ≡ true →
+      go : (here : Bool) → cond here (presentKeeps pending delay room p) (absentKeeps p) ≡ true →
           (busy : Bool) → isBusy p ≡ busy → (last : Bool) → leb (p .left) 1 ≡ last →
           cond here (presentKeeps (cond (busy && last) true pending) delay room (cond busy (cond last (finishedOf room p) (fallen p)) p))
-          (absentKeeps (cond busy (cond last (finishedOf room p) (fallen p)) p) && not (cond (busy && last) true pending)) ≡ true
+          (absentKeeps (cond busy (cond last (finishedOf room p) (fallen p)) p)) ≡ true
       go here k false b last l = k
       go true k true b true l = ended-keeps true (present pending delay room p k .count)
       go true k true b false l = fallen-keeps pending (present pending delay room p k) b l
-      go false k true b last l = absurd (absent-idle p pending k b)
+      go false k true b last l = absurd (absent-idle p k b)
 
 -- ---- writes to one printer
 

@@ -1,8 +1,9 @@
--- Document 01, "Rules", of the printers: what every image keeps.
-use Prim.Native.Nat.{ℕ, _<_, _^_}
+-- Document 01, "Rules", of the pending map and the printers: what every image keeps.
+use Prim.Native.Nat.{ℕ, _-_, _<_}
 use mathlib.Core.Path.{_≡_}
 use mathlib.Core.Bool.{Bool, true, not, _&&_, _||_, cond}
-use lib.Dec.{eqb, leb, ltb}
+use lib.Bits.{bitAnd}
+use lib.Dec.{eqb, leb}
 use lib.ListN.{length, getD}
 use Rattle.word.specs.Lists.{every}
 use Rattle.printer.specs.declared.Printer.{Printer}
@@ -13,33 +14,37 @@ use Rattle.printer.specs.Tick.{noPrinter, isBusy}
 abbrev pub between : ℕ → ℕ → ℕ → Bool
 between low high x = leb low x && leb x high
 
--- an uninstalled printer is all 0
+-- no bit of x lies outside the mask
+abbrev pub within : ℕ → ℕ → Bool
+within mask x = eqb (bitAnd x (0xFFFFFFFF - mask)) 0
+
+-- "an uninstalled printer is all 0"
 abbrev pub absentKeeps : Printer → Bool
 absentKeeps p = eqb (p .status) 0 && eqb (p .command) 0 && eqb (p .data0) 0 && eqb (p .left) 0 && eqb (p .count) 0
 
--- ticks left 1 to delay, not pending and COMMAND 0 or 2 while busy; no ticks left while idle
+-- "ticks left 1 to delay if STATUS is 3 and else 0, not pending and COMMAND 0 or 2 while 3"
 abbrev pub workKeeps : Bool → ℕ → Printer → Bool
 workKeeps pending delay p =
     cond (isBusy p) (between 1 delay (p .left) && (not pending && (eqb (p .command) 0 || eqb (p .command) 2))) (eqb (p .left) 0)
 
--- an installed one has STATUS 1 to 4, works as it should, and has a paper count at most its eighth
+-- "an installed one has STATUS 1 to 4, .., paper count at most paper length / 8", which is `room`
 unfoldable pub presentKeeps : Bool → ℕ → ℕ → Printer → Bool
 presentKeeps pending delay room p = between 1 4 (p .status) && workKeeps pending delay p && leb (p .count) room
 
 unfoldable pub printerKeeps : Bool → Bool → ℕ → ℕ → Printer → Bool
-printerKeeps installed pending delay room p = cond installed (presentKeeps pending delay room p) (absentKeeps p && not pending)
+printerKeeps installed pending delay room p = cond installed (presentKeeps pending delay room p) (absentKeeps p)
 
 -- printer n, by its bit of the two maps
 abbrev pub printerKeepsAt : ℕ → ℕ → ℕ → Line → ℕ → Bool
 printerKeepsAt installed delay room line n =
     printerKeeps (bit n installed) (bit n (line .pending)) delay room (getD (line .printers) n noPrinter)
 
--- eight printers; the pending map has bits of installed printers only
+-- "pending within installed", and the rules of each printer
 pub record Keeps (installed delay room : ℕ) (line : Line) : Type 0 where
   pub eight : length (line .printers) ≡ 8
-  pub small : line .pending < 2 ^ 8
+  pub owned : within installed (line .pending) ≡ true
   pub each : (n : ℕ) → n < 8 → printerKeepsAt installed delay room line n ≡ true
 
 -- the same as a test, which a call makes of a lent image
 unfoldable pub lineKeeps : ℕ → ℕ → ℕ → Line → Bool
-lineKeeps installed delay room line = ltb (line .pending) 256 && every 8 (printerKeepsAt installed delay room line)
+lineKeeps installed delay room line = within installed (line .pending) && every 8 (printerKeepsAt installed delay room line)

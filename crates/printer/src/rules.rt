@@ -41,7 +41,7 @@ fn printer_keeps(installed: bool, pending: bool, delay: u32, room: usize, p: Pri
     pick(
         installed,
         present_keeps(pending, delay, room, p),
-        absent_keeps(p) & !pending,
+        absent_keeps(p),
     )
 }
 
@@ -55,5 +55,5 @@ pub fn line_keeps(line: Line, installed: u32, delay: u32, room: usize) -> bool
         let p = printers[n];
         ok = ok & printer_keeps(has_bit(n, installed), has_bit(n, pending), delay, room, p);
     }
-    (pending < 256) & ok
+    (pending & !installed == 0) & ok
 }

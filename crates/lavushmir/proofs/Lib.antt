@@ -1,0 +1,6 @@
+pub mod Answers
+pub mod Keeps
+pub mod Packing
+pub mod ResetTheorems
+pub mod RomTheorems
+pub mod Four

@@ -1,0 +1,4 @@
+pub mod Answer
+pub mod Reset
+pub mod Rom
+pub mod Probe

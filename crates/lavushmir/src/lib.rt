@@ -1,0 +1,6 @@
+// The public calls of document 01: each takes any bytes and any numbers, and answers done or one numbered refusal.
+pub mod answer; // what a call answers, and its form in one 64-bit number
+pub mod reset; // the machine of a reset, laid down in a lent image
+pub mod rom; // the two calls that look into the ROMs
+mod panel; // the calls for C
+mod probe; // exports for tests beside other emulators
