@@ -1,0 +1,132 @@
+/*
+ * Lavushmir: an emulator of the uMPS machine of document 01, callable from C.
+ *
+ * For C99 and C++. Link with liblavushmir.a (x86-64).
+ *
+ * Buffers. The caller owns every buffer and lends it for the length of one
+ * call. A call keeps no pointer, allocates nothing and frees nothing. A buffer
+ * is given as a pointer to its first byte and its length in bytes. The pointer
+ * is never NULL, also where the length is 0, and needs no alignment. One buffer
+ * must not be lent twice in the same call, nor may two lent buffers overlap.
+ *
+ * Numbers are unsigned, and all 64 bits of them count: a time scale of
+ * 2^32 + 1 is refused, not taken as 1.
+ *
+ * Answers are one 64-bit number with three parts. Take them apart with
+ * lavushmir_number, lavushmir_reason and lavushmir_steps:
+ *
+ *     bits  0 to  7   the number: 0 done, 1 to 9 refused
+ *     bits  8 to 15   the reason why a run stopped
+ *     bits 32 to 63   the steps taken
+ *     all others      0
+ *
+ * Refusals. A call tests only what it is given, and answers the lowest number
+ * that applies. It tests before it writes: a refusal leaves every lent byte as
+ * it was, and reports 0 steps and no reason.
+ */
+#ifndef LAVUSHMIR_H
+#define LAVUSHMIR_H
+
+#include <stddef.h>
+#include <stdint.h>
+
+#ifdef __cplusplus
+extern "C" {
+#endif
+
+/* The length of the state image. Its layout is given in document 01. */
+#define LAVUSHMIR_IMAGE_BYTES 501
+
+/* The number in an answer. */
+enum {
+    /* done */
+    LAVUSHMIR_DONE = 0,
+    /* RAM is not 1 to 4,096 whole frames of 4,096 bytes */
+    LAVUSHMIR_BAD_RAM = 1,
+    /* either ROM is not 4 to 65,536 bytes, a multiple of 4 */
+    LAVUSHMIR_BAD_ROM = 2,
+    /* paper is over 65,536 bytes or not a multiple of 8 (0 is allowed) */
+    LAVUSHMIR_BAD_PAPER = 3,
+    /* journal is over 16,777,216 bytes or not a multiple of 256 (0 is allowed) */
+    LAVUSHMIR_BAD_JOURNAL = 4,
+    /* image is not 501 bytes, or (not for reset) breaks a rule of document 01 */
+    LAVUSHMIR_BAD_IMAGE = 5,
+    /* reset: time scale not 1 to 255, printer delay not 1 to 65,535, installed
+       map over 255; run: budget over 1,000,000 */
+    LAVUSHMIR_BAD_PARAMETER = 6,
+    /* take-back asks for more steps than are on hand */
+    LAVUSHMIR_NOT_ON_HAND = 7,
+    /* one of the records that take-back asks for is not well formed */
+    LAVUSHMIR_BAD_RECORD = 8,
+    /* the address asked for is not a multiple of 4 or lies in neither ROM;
+       listed for completeness, no call of this header answers it */
+    LAVUSHMIR_BAD_ADDRESS = 9
+};
+
+/* The reason in an answer: why a run stopped. */
+enum {
+    /* refused, or a call that does not run: reset and take-back */
+    LAVUSHMIR_NO_REASON = 0,
+    /* the budget is spent */
+    LAVUSHMIR_BUDGET_SPENT = 1,
+    /* the last step entered an exception, and the run was asked to stop there */
+    LAVUSHMIR_EXCEPTION = 2
+};
+
+/* The number for yes or no: LAVUSHMIR_DONE or one of the refusals. */
+static inline unsigned lavushmir_number(uint64_t answer)
+{
+    return (unsigned)(answer & 0xFF);
+}
+
+/* Why a run stopped. */
+static inline unsigned lavushmir_reason(uint64_t answer)
+{
+    return (unsigned)(answer >> 8 & 0xFF);
+}
+
+/* How many steps were run or taken back. */
+static inline uint32_t lavushmir_steps(uint64_t answer)
+{
+    return (uint32_t)(answer >> 32);
+}
+
+/*
+ * Reset: writes the state of a machine that has just been switched on.
+ *
+ * image          lent for writing, LAVUSHMIR_IMAGE_BYTES bytes. What it holds
+ *                before the call does not matter.
+ * image_bytes    the length of that buffer.
+ * time_scale     1 to 255, the word of that name on the machine's bus.
+ * printer_delay  1 to 65,535, the steps that a printer is busy for.
+ * installed      0 to 255, bit n on where printer n is installed.
+ *
+ * Answers, the first that applies:
+ *   LAVUSHMIR_BAD_IMAGE      image_bytes is not 501. Reset looks at the length
+ *                            only, never at what the image holds.
+ *   LAVUSHMIR_BAD_PARAMETER  one of the three parameters is out of its range.
+ *   LAVUSHMIR_DONE           all 501 bytes have been written.
+ * Each comes with 0 steps and LAVUSHMIR_NO_REASON, so that the whole answer is
+ * equal to its number. A refusal leaves every byte of the image as it was.
+ *
+ * The image then holds 0 everywhere but for: length word 497, version 1,
+ * PC 0x1FC00000, next PC 0x1FC00004, Status 0x10400000, Random 0x00000F00,
+ * timer 0xFFFFFFFF, the three parameters, and STATUS 1 for each installed
+ * printer. No step is on hand: what the journal holds can not be taken back.
+ *
+ * RAM, paper and journal are not lent to reset and stay as they are. The host
+ * clears them itself if it wants to.
+ */
+uint64_t lavushmir_reset(uint8_t *image, size_t image_bytes, uint64_t time_scale,
+                         uint64_t printer_delay, uint64_t installed);
+
+/*
+ * Run and take-back follow. Their prototypes come here when the archive has
+ * them; their numbers and reasons are in the lists above already.
+ */
+
+#ifdef __cplusplus
+}
+#endif
+
+#endif

@@ -1,0 +1,125 @@
+/* Reset from C99, as the service panel calls it. */
+
+#include "lavushmir.h"
+#include "reset_image.h"
+
+#include <stdio.h>
+#include <string.h>
+
+enum { GUARD = 16, ROOM = GUARD + LAVUSHMIR_IMAGE_BYTES + 1 + GUARD };
+
+static unsigned checks;
+static unsigned failures;
+
+static void check(int right, const char *what)
+{
+    checks++;
+    if (!right) {
+        failures++;
+        printf("c: failed: %s\n", what);
+    }
+}
+
+/* A buffer in which no byte is what reset writes there by chance alone. */
+static void fill(uint8_t *room)
+{
+    size_t i;
+    for (i = 0; i < ROOM; i++)
+        room[i] = (uint8_t)(0xB0 + i % 61);
+}
+
+/* A whole answer without reason and steps, taken apart. */
+static void check_answer(uint64_t answer, unsigned number, const char *what)
+{
+    check(lavushmir_number(answer) == number, what);
+    check(lavushmir_reason(answer) == LAVUSHMIR_NO_REASON, what);
+    check(lavushmir_steps(answer) == 0, what);
+    check(answer == number, what);
+}
+
+static void refuses(size_t bytes, uint64_t time_scale, uint64_t printer_delay,
+                    uint64_t installed, unsigned number, const char *what)
+{
+    uint8_t room[ROOM], before[ROOM];
+    fill(room);
+    memcpy(before, room, ROOM);
+    check_answer(lavushmir_reset(room + GUARD, bytes, time_scale, printer_delay, installed),
+                 number, what);
+    check(memcmp(room, before, ROOM) == 0, what);
+}
+
+static void resets(uint64_t time_scale, uint64_t printer_delay, uint64_t installed,
+                   const uint8_t *expected, const char *what)
+{
+    uint8_t room[ROOM], before[ROOM];
+    uint8_t *image = room + GUARD;
+    size_t behind = GUARD + LAVUSHMIR_IMAGE_BYTES;
+    fill(room);
+    memcpy(before, room, ROOM);
+    check_answer(
+        lavushmir_reset(image, LAVUSHMIR_IMAGE_BYTES, time_scale, printer_delay, installed),
+        LAVUSHMIR_DONE, what);
+    check(memcmp(image, expected, LAVUSHMIR_IMAGE_BYTES) == 0, what);
+    check(memcmp(room, before, GUARD) == 0, what);
+    check(memcmp(room + behind, before + behind, ROOM - behind) == 0, what);
+}
+
+/* The parts lie where they should, and no part reads another's bits. */
+static void unpacks(void)
+{
+    uint64_t answer = UINT64_C(0x89ABCDEF00000207);
+    check(lavushmir_number(answer) == 7, "number 7");
+    check(lavushmir_reason(answer) == LAVUSHMIR_EXCEPTION, "reason 2");
+    check(lavushmir_steps(answer) == 0x89ABCDEF, "steps 0x89ABCDEF");
+    check(lavushmir_number(~UINT64_C(0xFF)) == 0, "number 0 among ones");
+    check(lavushmir_reason(~UINT64_C(0xFF00)) == 0, "reason 0 among ones");
+    check(lavushmir_steps(UINT64_C(0xFFFFFFFF)) == 0, "steps 0 beside ones");
+}
+
+int main(void)
+{
+    const uint64_t past = UINT64_C(1) << 32;
+    uint8_t expected[LAVUSHMIR_IMAGE_BYTES];
+
+    check(sizeof reset_image == LAVUSHMIR_IMAGE_BYTES, "501 bytes are written out");
+    unpacks();
+
+    resets(0x12, 0x3456, 0xA5, reset_image, "reset with 0x12, 0x3456, 0xA5");
+
+    /* The lowest and the highest parameters: the last bytes of their words,
+       and of each printer's STATUS, differ from the image written out. */
+    memcpy(expected, reset_image, sizeof expected);
+    expected[320] = 1;
+    expected[323] = 0;
+    expected[324] = 1;
+    expected[328] = 0;
+    expected[332] = expected[372] = expected[432] = expected[472] = 0;
+    resets(1, 1, 0, expected, "reset with the lowest parameters");
+    expected[320] = 255;
+    expected[323] = expected[324] = 255;
+    expected[328] = 255;
+    expected[332] = expected[352] = expected[372] = expected[392] = 1;
+    expected[412] = expected[432] = expected[452] = expected[472] = 1;
+    resets(255, 65535, 255, expected, "reset with the highest parameters");
+
+    refuses(0, 1, 1, 0, LAVUSHMIR_BAD_IMAGE, "no image bytes");
+    refuses(500, 1, 1, 0, LAVUSHMIR_BAD_IMAGE, "500 image bytes");
+    refuses(502, 1, 1, 0, LAVUSHMIR_BAD_IMAGE, "502 image bytes");
+    refuses(500, 0, 0, 256, LAVUSHMIR_BAD_IMAGE, "5 comes before 6");
+    refuses(501, 0, 1, 0, LAVUSHMIR_BAD_PARAMETER, "time scale 0");
+    refuses(501, 256, 1, 0, LAVUSHMIR_BAD_PARAMETER, "time scale 256");
+    refuses(501, past + 1, 1, 0, LAVUSHMIR_BAD_PARAMETER, "time scale 2^32 + 1");
+    refuses(501, 1, 0, 0, LAVUSHMIR_BAD_PARAMETER, "printer delay 0");
+    refuses(501, 1, 65536, 0, LAVUSHMIR_BAD_PARAMETER, "printer delay 65,536");
+    refuses(501, 1, past + 1, 0, LAVUSHMIR_BAD_PARAMETER, "printer delay 2^32 + 1");
+    refuses(501, 1, 1, 256, LAVUSHMIR_BAD_PARAMETER, "installed map 256");
+    refuses(501, 1, 1, past, LAVUSHMIR_BAD_PARAMETER, "installed map 2^32");
+    refuses(501, UINT64_MAX, UINT64_MAX, UINT64_MAX, LAVUSHMIR_BAD_PARAMETER, "all ones");
+
+    if (failures != 0) {
+        printf("c: %u of %u checks failed\n", failures, checks);
+        return 1;
+    }
+    printf("c: %u checks passed\n", checks);
+    return 0;
+}

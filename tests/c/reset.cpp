@@ -1,0 +1,56 @@
+// Reset from C++11: the same header, the same archive.
+
+#include "lavushmir.h"
+#include "reset_image.h"
+
+#include <algorithm>
+#include <cstdio>
+#include <vector>
+
+static unsigned checks = 0;
+static unsigned failures = 0;
+
+static void check(bool right, const char *what)
+{
+    checks++;
+    if (!right) {
+        failures++;
+        std::printf("c++: failed: %s\n", what);
+    }
+}
+
+static void refuses(size_t bytes, uint64_t time_scale, unsigned number, const char *what)
+{
+    std::vector<uint8_t> image(bytes, 0xB7);
+    const std::vector<uint8_t> before = image;
+    const uint64_t answer =
+        lavushmir_reset(image.data(), image.size(), time_scale, 0x3456, 0xA5);
+    check(lavushmir_number(answer) == number, what);
+    check(lavushmir_reason(answer) == LAVUSHMIR_NO_REASON, what);
+    check(lavushmir_steps(answer) == 0, what);
+    check(image == before, what);
+}
+
+int main()
+{
+    static_assert(sizeof reset_image == LAVUSHMIR_IMAGE_BYTES, "501 bytes are written out");
+
+    std::vector<uint8_t> image(LAVUSHMIR_IMAGE_BYTES, 0xB7);
+    const uint64_t answer = lavushmir_reset(image.data(), image.size(), 0x12, 0x3456, 0xA5);
+    check(answer == LAVUSHMIR_DONE, "reset is done");
+    check(lavushmir_number(answer) == LAVUSHMIR_DONE, "number of a reset");
+    check(lavushmir_reason(answer) == LAVUSHMIR_NO_REASON, "reason of a reset");
+    check(lavushmir_steps(answer) == 0, "steps of a reset");
+    check(std::equal(image.begin(), image.end(), reset_image), "image of a reset");
+
+    refuses(LAVUSHMIR_IMAGE_BYTES - 1, 0x12, LAVUSHMIR_BAD_IMAGE, "500 image bytes");
+    refuses(LAVUSHMIR_IMAGE_BYTES + 1, 0, LAVUSHMIR_BAD_IMAGE, "502 image bytes, time scale 0");
+    refuses(LAVUSHMIR_IMAGE_BYTES, 0, LAVUSHMIR_BAD_PARAMETER, "time scale 0");
+
+    if (failures != 0) {
+        std::printf("c++: %u of %u checks failed\n", failures, checks);
+        return 1;
+    }
+    std::printf("c++: %u checks passed\n", checks);
+    return 0;
+}

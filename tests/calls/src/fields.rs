@@ -1,0 +1,153 @@
+//! The layout of the state image, written from document 01 and not taken from
+//! the reference: places of words, and names for every byte.
+
+pub const IMAGE_BYTES: usize = 501;
+pub const IMAGE_BITS: usize = IMAGE_BYTES * 8;
+pub const LENGTH_WORD: u32 = 497;
+pub const VERSION: u8 = 1;
+pub const WORDS: usize = 124;
+
+/// The words lie behind the length word and the version byte.
+pub const FIRST_WORD: usize = 5;
+
+// Places of words, counted from the first word.
+pub const INDEX: usize = 35;
+pub const RANDOM: usize = 36;
+pub const ENTRY_HI: usize = 37;
+pub const ENTRY_LO: usize = 38;
+pub const STATUS: usize = 40;
+pub const CAUSE: usize = 41;
+pub const TLB: usize = 43;
+pub const TIME_SCALE: usize = 78;
+pub const PRINTER_DELAY: usize = 79;
+pub const INSTALLED: usize = 80;
+pub const PRINTERS: usize = 81;
+pub const PENDING: usize = 121;
+pub const ON_HAND: usize = 122;
+pub const NEXT_SLOT: usize = 123;
+
+// Places within the five words of a printer.
+pub const PRINTER_STATUS: usize = 0;
+pub const PRINTER_COMMAND: usize = 1;
+pub const PRINTER_DATA0: usize = 2;
+pub const PRINTER_TICKS: usize = 3;
+pub const PRINTER_COUNT: usize = 4;
+pub const PRINTER_WORDS: usize = 5;
+
+/// What changing one bit of a field of a valid image does to the rules.
+#[derive(Clone, Copy, PartialEq, Eq)]
+pub enum OneBit {
+    /// No rule looks at the field.
+    NeverBreaks,
+    AlwaysBreaks,
+    /// It depends on the bit or on the rest of the image.
+    Either,
+}
+
+use OneBit::{AlwaysBreaks, Either, NeverBreaks};
+
+pub struct Field {
+    pub name: &'static str,
+    pub one_bit: OneBit,
+}
+
+const fn field(name: &'static str, one_bit: OneBit) -> Field {
+    Field { name, one_bit }
+}
+
+/// STATUS and the installed map: between two allowed values more than one bit
+/// differs, or another word has to change as well.
+pub const FIELDS: [Field; 31] = [
+    field("length word", AlwaysBreaks),
+    field("version", AlwaysBreaks),
+    field("registers", NeverBreaks),
+    field("HI", NeverBreaks),
+    field("LO", NeverBreaks),
+    field("PC", NeverBreaks),
+    field("next PC", NeverBreaks),
+    field("Index", Either),
+    field("Random", Either),
+    field("EntryHi", Either),
+    field("EntryLo", Either),
+    field("BadVAddr", NeverBreaks),
+    field("Status", Either),
+    field("Cause", Either),
+    field("EPC", NeverBreaks),
+    field("TLB high", Either),
+    field("TLB low", Either),
+    field("clock high", NeverBreaks),
+    field("clock low", NeverBreaks),
+    field("timer", NeverBreaks),
+    field("time scale", Either),
+    field("printer delay", Either),
+    field("installed map", AlwaysBreaks),
+    field("printer STATUS", AlwaysBreaks),
+    field("printer COMMAND", Either),
+    field("printer DATA0", Either),
+    field("printer ticks left", Either),
+    field("printer paper count", Either),
+    field("pending map", Either),
+    field("steps on hand", Either),
+    field("next slot", Either),
+];
+
+const FIRST_REGISTER_FIELD: usize = 2;
+const FIRST_SINGLE_FIELD: usize = 3;
+const FIRST_TLB_FIELD: usize = 15;
+const FIRST_CLOCK_FIELD: usize = 17;
+const FIRST_PRINTER_FIELD: usize = 23;
+const FIRST_LAST_FIELD: usize = 28;
+
+const REGISTERS: usize = 31;
+const CLOCK: usize = 75;
+
+/// The field in FIELDS that a byte of the image belongs to.
+pub fn field_of(byte: usize) -> usize {
+    if byte < 4 {
+        return 0;
+    }
+    if byte < FIRST_WORD {
+        return 1;
+    }
+    let word = (byte - FIRST_WORD) / 4;
+    if word < REGISTERS {
+        FIRST_REGISTER_FIELD
+    } else if word < TLB {
+        FIRST_SINGLE_FIELD + word - REGISTERS
+    } else if word < CLOCK {
+        FIRST_TLB_FIELD + (word - TLB) % 2
+    } else if word < PRINTERS {
+        FIRST_CLOCK_FIELD + word - CLOCK
+    } else if word < PENDING {
+        FIRST_PRINTER_FIELD + (word - PRINTERS) % PRINTER_WORDS
+    } else {
+        FIRST_LAST_FIELD + word - PENDING
+    }
+}
+
+/// A word of the image, counted from the first word, with the number of its
+/// register, TLB pair or printer.
+pub fn word_name(word: usize) -> String {
+    let name = FIELDS[field_of(FIRST_WORD + 4 * word)].name;
+    if word < REGISTERS {
+        format!("{name}, number {}", word + 1)
+    } else if (TLB..CLOCK).contains(&word) {
+        format!("{name}, number {}", (word - TLB) / 2)
+    } else if (PRINTERS..PENDING).contains(&word) {
+        format!("{name}, number {}", (word - PRINTERS) / PRINTER_WORDS)
+    } else {
+        name.to_string()
+    }
+}
+
+pub fn byte_name(byte: usize) -> String {
+    if byte >= IMAGE_BYTES {
+        return format!("byte {byte} (behind the image)");
+    }
+    if byte < FIRST_WORD {
+        return format!("byte {byte} ({})", FIELDS[field_of(byte)].name);
+    }
+    let (word, place) = ((byte - FIRST_WORD) / 4, (byte - FIRST_WORD) % 4);
+    let lowest_bit = 24 - 8 * place;
+    format!("byte {byte} ({}, bits {lowest_bit} to {})", word_name(word), lowest_bit + 7)
+}

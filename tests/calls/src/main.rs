@@ -1,0 +1,45 @@
+//! Compares the first calls of the archive with the reference: reset, the
+//! rules of the state image, and the two calls on the ROMs.
+//!
+//! `calls [SEED]`. Exit 0: all equal and all counts met; 1: not so.
+
+mod archive;
+mod breaches;
+mod dice;
+mod edges;
+mod fields;
+mod guarded;
+mod judge;
+mod one_bit;
+mod report;
+mod reset;
+mod rom;
+mod rules;
+mod seen;
+mod valid;
+
+use dice::Dice;
+use std::env;
+use std::process::exit;
+
+const DEFAULT_SEED: u64 = 1;
+
+fn seed() -> u64 {
+    match env::args().nth(1) {
+        None => DEFAULT_SEED,
+        Some(text) => text.parse().unwrap_or_else(|_| {
+            eprintln!("calls: the seed is a number, not {text:?}");
+            exit(2)
+        }),
+    }
+}
+
+fn main() {
+    let seed = seed();
+    println!("calls: seed {seed}");
+    // Each part has dice of its own, so that one can change without the rest.
+    reset::compare(&mut Dice::new(seed));
+    rules::compare(&mut Dice::new(seed.wrapping_add(1 << 60)));
+    rom::compare(&mut Dice::new(seed.wrapping_add(2 << 60)));
+    println!("calls: all equal");
+}
