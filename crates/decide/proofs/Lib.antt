@@ -1,0 +1,6 @@
+pub mod Bytes
+pub mod Held
+pub mod Named
+pub mod Asks
+pub mod Laws
+pub mod Parts

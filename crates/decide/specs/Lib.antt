@@ -1,0 +1,13 @@
+pub mod Codes
+pub mod Operand
+pub mod Operate
+pub mod HiLo
+pub mod Branch
+pub mod Control
+pub mod Access
+pub mod Intend
+pub mod Lent
+pub mod Part
+pub mod Settle
+pub mod Decide
+pub mod Range

@@ -1,0 +1,44 @@
+-- What stays in range: an answer, an intent, an effect.
+use Prim.Native.Nat.{ℕ, _+_, _%_, _≤_, _<_}
+use mathlib.Core.Path.{_≡_}
+use lib.ListN.{length}
+use Rattle.board.specs.Places.{deviceSize}
+use Rattle.reach.specs.declared.Reached.{Reached}
+use Rattle.reach.specs.declared.Reached.the-variants as reached
+use Rattle.decide.specs.Lent.{Lent, Room, Whole}
+use Rattle.decide.specs.declared.intent.Intent.{Intent}
+use Rattle.decide.specs.declared.intent.Intent.the-variants as intent
+use Rattle.decide.specs.declared.effect.Effect.{Effect}
+use Rattle.decide.specs.declared.effect.Effect.the-variants.{Nothing, Register, HiLo, Control, Entry, TlbRow, Ram, DeviceLoad, DeviceStore, Raise}
+
+abbrev pub Held : Lent → Reached → Type 0
+Held lent (reached.Lands place) = Room lent place
+Held lent (reached.Exception code miss) = Unit {0}
+
+-- a fetch has its answer, from what is lent in whole words
+pub record Ready (lent : Lent) (answer : Reached) : Type 0 where
+  pub whole : Whole lent
+  pub held : Held lent answer
+
+-- rows is the size of the translation table
+abbrev pub Asks : Lent → ℕ → Intent → Type 0
+Asks lent rows (intent.Write d v next) = d < 32
+Asks lent rows (intent.HiLo hi lo) = Unit {0}
+Asks lent rows (intent.Load op d va answer) = (d < 32) × Held lent answer
+Asks lent rows (intent.Store op x va answer) = Held lent answer
+Asks lent rows (intent.SetControl r word) = Unit {0}
+Asks lent rows (intent.SetEntry row) = Unit {0}
+Asks lent rows (intent.SetRow i row) = i < rows
+Asks lent rows (intent.Trap code coprocessor) = Unit {0}
+
+abbrev pub Within : Lent → ℕ → Effect → Type 0
+Within lent rows Nothing = Unit {0}
+Within lent rows (Register d v) = (0 < d) × (d < 32)
+Within lent rows (HiLo hi lo) = Unit {0}
+Within lent rows (Control r word) = Unit {0}
+Within lent rows (Entry row) = Unit {0}
+Within lent rows (TlbRow i row) = i < rows
+Within lent rows (Ram at word) = (at % 4 ≡ 0) × (at + 4 ≤ length (lent .ram))
+Within lent rows (DeviceLoad d at) = (0 < d) × (d < 32) × (at < deviceSize)
+Within lent rows (DeviceStore at word) = (at < deviceSize) × (at % 4 ≡ 0)
+Within lent rows (Raise e) = Unit {0}
