@@ -7,7 +7,8 @@ use native.Mathlib.Omega.{arith}
 use lib.ListN.{length, getD}
 use Rattle.word.specs.Number.{extended, signed, bits}
 use Rattle.memory.specs.Memory.{loadAt, storedAt}
-use Rattle.memory.proofs.Within.{load-small, load-part, store-part}
+use Rattle.memory.proofs.Within.{load-part, store-part}
+use Rattle.memory.proofs.OneCell.{load-small}
 use Rattle.isa.specs.declared.instr.LoadOp.the-variants.{Lb, Lh, Lw, Lbu, Lhu}
 use Rattle.isa.specs.declared.instr.StoreOp.the-variants.{Sb, Sh, Sw}
 use Rattle.decide.specs.Lent.{around}
@@ -34,7 +35,7 @@ module _ (m : List ℕ) (at : ℕ) (fits : at / 4 * 4 + 4 ≤ length m) (bytes :
 
     pub lb-reads : loadPart Lb old (around m at) at ≡ extended 8 (loadAt 1 m at)
     lb-reads =
-        let small : loadAt 1 m at < 2 ^ 8 = load-small 1 m at (omega arith) bytes in
+        let small : loadAt 1 m at < 2 ^ 8 = load-small 1 m at (omega arith) (λ i l. bytes i) in
         ap (λ x. bits 32 (signed 8 x)) (taken 1 (omega arith) ∙ sym (mod-eq-of-lt small))
 
     pub lhu-reads : at % 2 ≡ 0 → loadPart Lhu old (around m at) at ≡ loadAt 2 m at
@@ -42,7 +43,7 @@ module _ (m : List ℕ) (at : ℕ) (fits : at / 4 * 4 + 4 ≤ length m) (bytes :
 
     pub lh-reads : at % 2 ≡ 0 → loadPart Lh old (around m at) at ≡ extended 16 (loadAt 2 m at)
     lh-reads even =
-        let small : loadAt 2 m at < 2 ^ 16 = load-small 2 m at (omega arith) bytes in
+        let small : loadAt 2 m at < 2 ^ 16 = load-small 2 m at (omega arith) (λ i l. bytes i) in
         ap (λ x. bits 32 (signed 16 x)) (taken 2 (omega arith) ∙ sym (mod-eq-of-lt small))
 
     pub lw-reads : at % 4 ≡ 0 → loadPart Lw old (around m at) at ≡ loadAt 4 m at

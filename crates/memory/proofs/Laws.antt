@@ -7,6 +7,7 @@ use lib.ListN.{length, getD, take, drop, length-append, length-drop, take-append
 use lib.Seq.{length-take-le, take-at, drop-at, getD-take, getD-drop, getD-append-add, drop-drop}
 use Rattle.word.specs.Little.{fromBytes, toBytes}
 use Rattle.word.proofs.LittleBytes.{length-to, from-to, to-from}
+use Rattle.memory.proofs.OneCell.{to-loaded}
 use Rattle.memory.specs.Memory.{loadAt, storedAt}
 
 module _ (n : ℕ) (m : List ℕ) (at : ℕ) (fits : at + n ≤ length m) where
@@ -46,13 +47,4 @@ module _ (n : ℕ) (m : List ℕ) (at : ℕ) (fits : at + n ≤ length m) where
   pub stored-loaded : ((i : ℕ) → getD m i 0 < 256) → storedAt n m at (loadAt n m at) ≡ m
   unfolding loadAt storedAt
   stored-loaded bytes =
-      ap (λ t. take at m ++ t ++ drop (at + n) m) same ∙ (rw (append-assoc, ← drop-drop n at m, take-append-drop n (drop at m)) (take-append-drop at m))
-    where
-      part : List ℕ
-      part = take n (drop at m)
-
-      size : length part ≡ n
-      size = length-take-le n (drop at m) (simp length-drop (omega arith))
-
-      same : toBytes n (fromBytes part) ≡ part
-      same = ap (λ k. toBytes k (fromBytes part)) (sym size) ∙ to-from part (λ i l. let e : length part ≡ n = size in rw (getD-take n (drop at m) i 0 (omega arith), getD-drop) (bytes (at + i)))
+      ap (λ t. take at m ++ t ++ drop (at + n) m) (to-loaded n m at fits (λ i l. bytes i)) ∙ (rw (append-assoc, ← drop-drop n at m, take-append-drop n (drop at m)) (take-append-drop at m))

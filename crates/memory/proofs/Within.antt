@@ -12,41 +12,16 @@ use Rattle.word.specs.Little.{fromBytes, toBytes}
 use Rattle.word.proofs.Lists.{below-nil, below-cons, below-append}
 use Rattle.word.proofs.LittleBytes.{from-to, to-from}
 use Rattle.memory.specs.Memory.{loadAt, storedAt}
+use Rattle.memory.proofs.OneCell.{cell, cell-long, cell-below, to-loaded, load-small, to-below}
 use Rattle.memory.proofs.Split.{load-split}
 use Rattle.memory.proofs.Laws.{length-stored}
 
 abbrev Bytes : List ℕ → Type 0
 Bytes m = (i : ℕ) → getD m i 0 < 256
 
--- ---- a cell's bytes
-module _ (k : ℕ) (m : List ℕ) (base : ℕ) (fits : base + k ≤ length m) (bytes : Bytes m) where
-  abbrev cell : List ℕ
-  cell = take k (drop base m)
-
-  cell-long : length cell ≡ k
-  cell-long = length-take-le k (drop base m) (simp length-drop (omega arith))
-
-  cell-below : Below 256 cell
-  cell-below i l =
-      let e : length cell ≡ k = cell-long in
-      rw (getD-take k (drop base m) i 0 (omega arith), getD-drop) (bytes (base + i))
-
-  -- the bytes of the number that a cell says are the cell's
-  cell-again : toBytes k (loadAt k m base) ≡ cell
-  unfolding loadAt
-  cell-again = ap (λ n. toBytes n (fromBytes cell)) (sym cell-long) ∙ to-from cell cell-below
-
-  held : loadAt k m base ≡ loadAt k m base % 256 ^ k
-  unfolding loadAt
-  held = sym (ap fromBytes cell-again) ∙ from-to k (fromBytes cell)
-
-  pub load-small : loadAt k m base < 256 ^ k
-  load-small = subst⁻¹ (λ n. n < 256 ^ k) held (mod-lt (loadAt k m base) (one-le-pow k 256 (omega arith)))
-
-to-below : (n x : ℕ) → Below 256 (toBytes n x)
-unfolding toBytes
-to-below zero x = below-nil 256
-to-below (suc n) x = below-cons (toBytes n (x / 256)) (mod-lt x (omega arith)) (to-below n (x / 256))
+-- what is a byte everywhere is a byte within the length
+below : (m : List ℕ) → Bytes m → Below 256 m
+below m bytes i l = bytes i
 
 below-take : (j : ℕ) (l : List ℕ) → j ≤ length l → Below 256 l → Below 256 (take j l)
 below-take j l h small i within =
@@ -69,7 +44,7 @@ module _ (k n a : ℕ) (inside : a + n ≤ k) (m : List ℕ) (base : ℕ) (fits 
   from-part : loadAt k m base / 256 ^ a ≡ loadAt (n + rest) m (base + a)
   from-part =
       let all : k ≡ a + (n + rest) = omega arith in
-      let low : loadAt a m base < 256 ^ a = load-small a m base (omega arith) bytes in
+      let low : loadAt a m base < 256 ^ a = load-small a m base (omega arith) (below m bytes) in
       ap (λ j. loadAt j m base / 256 ^ a) all
       ∙ ap (λ j. j / 256 ^ a) (load-split m base a (n + rest) (omega arith))
       ∙ add-mul-div-left (loadAt a m base) (loadAt (n + rest) m (base + a)) (one-le-pow a 256 (omega arith))
@@ -77,7 +52,7 @@ module _ (k n a : ℕ) (inside : a + n ≤ k) (m : List ℕ) (base : ℕ) (fits 
 
   pub load-part : loadAt n m (base + a) ≡ loadAt k m base / 256 ^ a % 256 ^ n
   load-part =
-      let small : loadAt n m (base + a) < 256 ^ n = load-small n m (base + a) (omega arith) bytes in
+      let small : loadAt n m (base + a) < 256 ^ n = load-small n m (base + a) (omega arith) (below m bytes) in
       sym
       (ap (λ j. j % 256 ^ n) (from-part ∙ load-split m (base + a) n rest (omega arith))
       ∙ add-mul-mod-self-left (loadAt n m (base + a)) (256 ^ n) (loadAt rest m (base + a + n))
@@ -85,19 +60,19 @@ module _ (k n a : ℕ) (inside : a + n ≤ k) (m : List ℕ) (base : ℕ) (fits 
 
   -- the cell with the part changed
   abbrev changed : ℕ → List ℕ
-  changed x = storedAt n (cell k m base fits bytes) a x
+  changed x = storedAt n (cell k m base fits (below m bytes)) a x
 
   long : (x : ℕ) → length (changed x) ≡ k
   long x =
-      let e : length (cell k m base fits bytes) ≡ k = cell-long k m base fits bytes in
-      length-stored n (cell k m base fits bytes) a (omega arith) x ∙ e
+      let e : length (cell k m base fits (below m bytes)) ≡ k = cell-long k m base fits (below m bytes) in
+      length-stored n (cell k m base fits (below m bytes)) a (omega arith) x ∙ e
 
   small : (x : ℕ) → Below 256 (changed x)
   unfolding storedAt
   small x =
-      let c = cell k m base fits bytes in
-      let e : length c ≡ k = cell-long k m base fits bytes in
-      let b = cell-below k m base fits bytes in
+      let c = cell k m base fits (below m bytes) in
+      let e : length c ≡ k = cell-long k m base fits (below m bytes) in
+      let b = cell-below k m base fits (below m bytes) in
       below-append (take a c ++ toBytes n x) (drop (a + n) c) (below-append (take a c) (toBytes n x) (below-take a c (omega arith) b) (to-below n x)) (below-drop (a + n) c b)
 
   front : take base m ++ take a (take k (drop base m)) ≡ take (base + a) m
@@ -105,7 +80,7 @@ module _ (k n a : ℕ) (inside : a + n ≤ k) (m : List ℕ) (base : ℕ) (fits 
 
   back : drop (a + n) (take k (drop base m)) ++ drop (base + k) m ≡ drop (base + a + n) m
   back =
-      let e : length (take k (drop base m)) ≡ k = cell-long k m base fits bytes in
+      let e : length (take k (drop base m)) ≡ k = cell-long k m base fits (below m bytes) in
       let i : a + n ≤ length (take k (drop base m)) = omega arith in
       let j : base + (a + n) ≡ base + a + n = omega arith in
       ap (λ l. drop (a + n) (take k (drop base m)) ++ l) (sym (drop-drop k base m))
@@ -119,7 +94,7 @@ module _ (k n a : ℕ) (inside : a + n ≤ k) (m : List ℕ) (base : ℕ) (fits 
   store-part x =
       let again : toBytes k (fromBytes (changed x)) ≡ changed x = ap (λ j. toBytes j (fromBytes (changed x))) (sym (long x)) ∙ to-from (changed x) (small x) in
       sym
-      (ap (λ l. storedAt k m base (fromBytes (storedAt n l a x))) (cell-again k m base fits bytes)
+      (ap (λ l. storedAt k m base (fromBytes (storedAt n l a x))) (to-loaded k m base fits (below m bytes))
       ∙ ap (λ l. take base m ++ l ++ drop (base + k) m) again
       ∙ regroup (take base m) (take a (take k (drop base m))) (toBytes n x) (drop (a + n) (take k (drop base m))) (drop (base + k) m)
       ∙ (λ i. front i ++ toBytes n x ++ back i))

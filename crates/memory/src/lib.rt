@@ -1,4 +1,6 @@
 // Little-endian bytes, halves and words of a lent slice. Each width is made of two of the half of it.
+pub mod words; // a list of words
+
 ghost use mathlib.Core.Path.{_≡_};
 ghost use Prim.Native.Nat.{_+_, _≤_};
 ghost use lib.ListN.{length};

@@ -1,0 +1,57 @@
+-- Which bytes keep the layout, and of which records they are.
+use Prim.Native.Nat.{ℕ, _%_, _^_}
+use mathlib.Core.Path.{_≡_}
+use mathlib.Core.Bool.{Bool, true, false, cond, _&&_, _||_}
+use mathlib.Core.List.{List}
+use lib.Dec.{ltb, eqb}
+use lib.ListN.{length, getD}
+use Rattle.word.specs.Lists.{every, Below}
+use Rattle.word.specs.Map.{bit}
+use Rattle.printer.specs.declared.saved.SavedPaper.{SavedPaper}
+use Rattle.printer.specs.Rules.{between}
+use Rattle.record.specs.declared.Record.{Record}
+use Rattle.record.specs.declared.Saved.{Saved}
+use Rattle.record.specs.declared.Saved.the-variants.{Nothing, Register, TlbRow, RamWord}
+use Rattle.record.specs.Layout.{layoutOf, slotWord, paperAt}
+
+-- a printer that did not write has 0 for its byte
+abbrev pub byteKeeps : SavedPaper → ℕ → Bool
+byteKeeps p n = bit n (p .mask) || eqb (getD (p .bytes) n 0) 0
+
+-- the eight printers have eight bits
+unfoldable pub paperKeeps : SavedPaper → Bool
+paperKeeps p = ltb (p .mask) 256 && every 8 (byteKeeps p)
+
+-- a register 1 to 31, a row below 16, a RAM place that is a multiple of 4; and 0 where the kind needs no word
+unfoldable pub savedKeeps : ℕ → ℕ → ℕ → ℕ → Bool
+savedKeeps kind which first second =
+    cond (eqb kind 0) (eqb which 0 && eqb first 0 && eqb second 0)
+    (cond (eqb kind 1) (between 1 31 which && eqb second 0)
+    (cond (eqb kind 2) (ltb which 16) (cond (eqb kind 3) (eqb (which % 4) 0 && eqb second 0) false)))
+
+abbrev pub restKeeps : (ℕ → ℕ) → Bool
+restKeeps word = eqb (word 61) 0 && eqb (word 62) 0 && eqb (word 63) 0
+
+abbrev pub wordsKeep : (ℕ → ℕ) → Bool
+wordsKeep word = savedKeeps (word 17) (word 18) (word 19) (word 20) && paperKeeps (paperAt word) && restKeeps word
+
+-- the bytes of a slot keep the layout
+unfoldable pub keepsLayout : List ℕ → Bool
+keepsLayout slot = wordsKeep (slotWord slot)
+
+-- ---- the same of a record
+
+abbrev pub savedRanged : Saved → Bool
+savedRanged Nothing = true
+savedRanged (Register n old) = between 1 31 n
+savedRanged (TlbRow i row) = ltb i 16
+savedRanged (RamWord place old) = eqb (place % 4) 0
+
+-- the records that have bytes: the arrays have their lengths, every number is a word or a byte, and the ranges
+pub record Ranged (r : Record) : Type 0 where
+  pub printers : length (r .printers) ≡ 8
+  pub eight : length (r .paper .bytes) ≡ 8
+  pub bytes : Below 256 (r .paper .bytes)
+  pub small : Below (2 ^ 32) (layoutOf r)
+  pub saved : savedRanged (r .saved) ≡ true
+  pub paper : paperKeeps (r .paper) ≡ true

@@ -1,0 +1,30 @@
+// The record of a step: what the step overwrites, as a value and as the 256 bytes of a journal's slot (RECORD.md).
+pub mod decode; // from bytes to a record
+pub mod encode; // from a record to bytes
+pub mod keeps; // whether bytes keep the layout
+
+use printer::Printer;
+use printer::saved::SavedPaper;
+use state::machine::Core;
+use tlb::Row;
+
+// What the step's effect overwrites beside the small words.
+pub enum Saved {
+    Nothing,
+    // its number and old value
+    Register(u32, u32),
+    // its index and old words
+    TlbRow(u32, Row),
+    // its place and old word
+    RamWord(u32, u32),
+}
+
+// All as it was before the step. The clock needs no room, since it goes down by one; on hand and next slot never come from a record.
+pub struct Record {
+    pub core: Core,
+    pub timer: u32,
+    pub pending: u32,
+    pub paper: SavedPaper,
+    pub saved: Saved,
+    pub printers: [Printer; 8],
+}
