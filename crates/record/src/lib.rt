@@ -1,4 +1,4 @@
-// The record of a step: what the step overwrites, as a value and as the 256 bytes of a journal's slot (RECORD.md).
+// The record of a step: what the step overwrites, as a value and as the 256 bytes of a journal's slot (docs/RECORD.md).
 pub mod decode; // from bytes to a record
 pub mod encode; // from a record to bytes
 pub mod keeps; // whether bytes keep the layout

@@ -1,0 +1,7 @@
+pub mod World
+pub mod Tick
+pub mod Apply
+pub mod Parts
+pub mod Step
+pub mod Fits
+pub mod Note

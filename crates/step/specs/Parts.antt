@@ -1,0 +1,81 @@
+-- The effect by parts, for functions that hold only some of them: proofs/Effects.antt shows that together they are `effectOf`.
+use Prim.Native.Nat.{ℕ}
+use mathlib.Core.List.{List}
+use lib.ListN.{set}
+use Rattle.bus.specs.Store.{busWriteOf}
+use Rattle.bus.specs.Stored.{causeStored}
+use Rattle.bus.specs.Words.{busWordOf}
+use Rattle.bus.specs.declared.read.Bus.{Bus}
+use Rattle.cp0.specs.Entry.{enteredOf}
+use Rattle.cp0.specs.Registers.{withRegister, withEntry}
+use Rattle.isa.specs.declared.instr.ControlRegister.the-variants.{Cause}
+use Rattle.memory.specs.Memory.{storedAt}
+use Rattle.printer.specs.declared.Printer.{Printer}
+use Rattle.tlb.specs.declared.Row.{Row}
+use Rattle.state.specs.declared.machine.Core.{Core}
+use Rattle.state.specs.declared.machine.Board.{Board}
+use Rattle.decide.specs.declared.effect.Effect.{Effect}
+use Rattle.decide.specs.declared.effect.Effect.the-variants.{Nothing, Register, HiLo, Control, Entry, TlbRow, Ram, DeviceLoad, DeviceStore, Raise}
+use Rattle.step.specs.Apply.{withHiLo, withCp0, boardStored}
+
+-- the registers; the bus is read only where the effect asks for it
+abbrev pub regsAfter : Bus → List Printer → Effect → List ℕ → List ℕ
+regsAfter b printers Nothing regs = regs
+regsAfter b printers (Register d word) regs = set regs d word
+regsAfter b printers (HiLo hi lo) regs = regs
+regsAfter b printers (Control r word) regs = regs
+regsAfter b printers (Entry row) regs = regs
+regsAfter b printers (TlbRow i row) regs = regs
+regsAfter b printers (Ram at word) regs = regs
+regsAfter b printers (DeviceLoad d offset) regs = set regs d (busWordOf b printers offset)
+regsAfter b printers (DeviceStore offset word) regs = regs
+regsAfter b printers (Raise e) regs = regs
+
+abbrev pub ramAfter : Effect → List ℕ → List ℕ
+ramAfter Nothing ram = ram
+ramAfter (Register d word) ram = ram
+ramAfter (HiLo hi lo) ram = ram
+ramAfter (Control r word) ram = ram
+ramAfter (Entry row) ram = ram
+ramAfter (TlbRow i row) ram = ram
+ramAfter (Ram at word) ram = storedAt 4 ram at word
+ramAfter (DeviceLoad d offset) ram = ram
+ramAfter (DeviceStore offset word) ram = ram
+ramAfter (Raise e) ram = ram
+
+-- the core but for its PC pair; `pending` is the map after the effect
+abbrev pub coreAfter : ℕ → Effect → Core → Core
+coreAfter pending Nothing c = c
+coreAfter pending (Register d word) c = c
+coreAfter pending (HiLo hi lo) c = withHiLo hi lo c
+coreAfter pending (Control r word) c = withCp0 (withRegister r word (c .cp0)) c
+coreAfter pending (Entry row) c = withCp0 (withEntry (row .high) (row .low) (c .cp0)) c
+coreAfter pending (TlbRow i row) c = c
+coreAfter pending (Ram at word) c = c
+coreAfter pending (DeviceLoad d offset) c = c
+coreAfter pending (DeviceStore offset word) c = withCp0 (withRegister Cause (causeStored (busWriteOf offset word) pending (c .cp0 .cause)) (c .cp0)) c
+coreAfter pending (Raise e) c = withCp0 (enteredOf e (c .pc) (c .cp0)) c
+
+abbrev pub rowsAfter : Effect → List Row → List Row
+rowsAfter Nothing t = t
+rowsAfter (Register d word) t = t
+rowsAfter (HiLo hi lo) t = t
+rowsAfter (Control r word) t = t
+rowsAfter (Entry row) t = t
+rowsAfter (TlbRow i row) t = set t i row
+rowsAfter (Ram at word) t = t
+rowsAfter (DeviceLoad d offset) t = t
+rowsAfter (DeviceStore offset word) t = t
+rowsAfter (Raise e) t = t
+
+abbrev pub boardAfter : Effect → Board → Board
+boardAfter Nothing b = b
+boardAfter (Register d word) b = b
+boardAfter (HiLo hi lo) b = b
+boardAfter (Control r word) b = b
+boardAfter (Entry row) b = b
+boardAfter (TlbRow i row) b = b
+boardAfter (Ram at word) b = b
+boardAfter (DeviceLoad d offset) b = b
+boardAfter (DeviceStore offset word) b = boardStored (busWriteOf offset word) b
+boardAfter (Raise e) b = b

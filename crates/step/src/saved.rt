@@ -1,0 +1,44 @@
+// What a record keeps of the effect: the one register, row or RAM word that it overwrites.
+ghost use mathlib.Core.Path.{_≡_};
+ghost use Prim.Native.Nat.{_<_};
+ghost use lib.ListN.{length, getD};
+ghost use Rattle.tlb.specs.Entry.{noRow};
+ghost use Rattle.step.specs.Fits.{Fits};
+ghost use Rattle.step.specs.Note.{savedOf};
+use decide::effect::Effect;
+use record::Saved;
+use tlb::Row;
+
+// Functions of their own, so that a row or a register is read only in the arm that needs it.
+fn row_at(t: [Row; 16], i: usize) -> Row
+    requires { ⌜ i < 16 ⌝ }
+    ensures { λ r. ⌜ r ≡ getD t i noRow ⌝ }
+{
+    t[i]
+}
+
+fn register_at(regs: &[u32; 32], d: u32) -> u32
+    requires { ⌜ d < 32 ⌝ }
+    ensures { λ r. ⌜ r ≡ getD (now (regs .entry)) d 0 ⌝ }
+{
+    let at = d as usize;
+    regs[at]
+}
+
+pub fn saved(effect: Effect, regs: &[u32; 32], t: [Row; 16], ram: &[u8]) -> Saved
+    requires { ⌜ Fits (length (now ram)) effect ⌝ }
+    ensures { λ r. ⌜ r ≡ savedOf effect (now (regs .entry)) t (now (ram .entry)) ⌝ }
+{
+    match effect {
+        Effect::Register(d, _) => Saved::Register(d, register_at(regs, d)),
+        Effect::DeviceLoad(d, _) => Saved::Register(d, register_at(regs, d)),
+        Effect::TlbRow(i, _) => Saved::TlbRow(i as u32, row_at(t, i)),
+        Effect::Ram(at, _) => Saved::RamWord(at, memory::load_word(ram, at as usize)),
+        Effect::Nothing => Saved::Nothing,
+        Effect::HiLo(_, _) => Saved::Nothing,
+        Effect::Control(_, _) => Saved::Nothing,
+        Effect::Entry(_) => Saved::Nothing,
+        Effect::DeviceStore(_, _) => Saved::Nothing,
+        Effect::Raise(_) => Saved::Nothing,
+    }
+}
