@@ -35,18 +35,18 @@ use Rattle.decide.proofs.Asks.{decoded-asks}
 
 module _ (lent : Lent) (rows : ℕ) where
   -- register 0 is left out
-  to-register-within : (d : ℕ) (e : Effect) → (0 < d → Within lent rows e) → Within lent rows (toRegister d e)
+  to-register-within : (d : ℕ) (e : Effect) → (0 < d → Within (length (lent .ram)) rows e) → Within (length (lent .ram)) rows (toRegister d e)
   to-register-within d e h =
-      picked (Within lent rows) (eqb d 0) effect.Nothing e (λ _. tt)
+      picked (Within (length (lent .ram)) rows) (eqb d 0) effect.Nothing e (λ _. tt)
       (λ f. let apart : d ≡ 0 → ⊥ = eqb-false d 0 f in h (omega arith))
 
-  loads-within : (op : LoadOp) (d old word : ℕ) (place : Place) → d < 32 → Room lent place → Within lent rows (loadsOf op d old word place)
+  loads-within : (op : LoadOp) (d old word : ℕ) (place : Place) → d < 32 → Room lent place → Within (length (lent .ram)) rows (loadsOf op d old word place)
   loads-within op d old word (Ram at) small room = to-register-within d _ (λ above. (above, small))
   loads-within op d old word (Execution at) small room = to-register-within d _ (λ above. (above, small))
   loads-within op d old word (Bootstrap at) small room = to-register-within d _ (λ above. (above, small))
   loads-within op d old word (Device at) small room = to-register-within d _ (λ above. (above, small, room .0))
 
-  stores-within : (op : StoreOp) (x word : ℕ) (place : Place) → Room lent place → Within lent rows (storesOf op x word place)
+  stores-within : (op : StoreOp) (x word : ℕ) (place : Place) → Room lent place → Within (length (lent .ram)) rows (storesOf op x word place)
   stores-within op x word (Ram at) room = (omega arith, room)
   stores-within op x word (Execution at) room = tt
   stores-within op x word (Bootstrap at) room = tt
@@ -54,7 +54,7 @@ module _ (lent : Lent) (rows : ℕ) where
 
   module _ (core : Core) (regs : List ℕ) where
     abbrev Stays : Decision → Type 0
-    Stays d = Within lent rows (d .effect)
+    Stays d = Within (length (lent .ram)) rows (d .effect)
 
     settle-within : (i : Intent) → Asks lent rows i → Stays (settleOf core regs lent i)
     unfolding settleOf
@@ -71,7 +71,7 @@ module _ (lent : Lent) (rows : ℕ) where
 
 module _ (lent : Lent) (whole : Whole lent) (t : List Row) (rows : 0 < length t) (core : Core) (regs : List ℕ) where
   abbrev In : Decision → Type 0
-  In d = Within lent (length t) (d .effect)
+  In d = Within (length (lent .ram)) (length t) (d .effect)
 
   execute-within : (word : ℕ) → In (executeOf core regs t lent word)
   unfolding executeOf

@@ -31,14 +31,15 @@ Asks lent rows (intent.SetEntry row) = Unit {0}
 Asks lent rows (intent.SetRow i row) = i < rows
 Asks lent rows (intent.Trap code coprocessor) = Unit {0}
 
-abbrev pub Within : Lent → ℕ → Effect → Type 0
-Within lent rows Nothing = Unit {0}
-Within lent rows (Register d v) = (0 < d) × (d < 32)
-Within lent rows (HiLo hi lo) = Unit {0}
-Within lent rows (Control r word) = Unit {0}
-Within lent rows (Entry row) = Unit {0}
-Within lent rows (TlbRow i row) = i < rows
-Within lent rows (Ram at word) = (at % 4 ≡ 0) × (at + 4 ≤ length (lent .ram))
-Within lent rows (DeviceLoad d at) = (0 < d) × (d < 32) × (at < deviceSize)
-Within lent rows (DeviceStore at word) = (at < deviceSize) × (at % 4 ≡ 0)
-Within lent rows (Raise e) = Unit {0}
+-- room is the length of RAM
+abbrev pub Within : ℕ → ℕ → Effect → Type 0
+Within room rows Nothing = Unit {0}
+Within room rows (Register d v) = (0 < d) × (d < 32)
+Within room rows (HiLo hi lo) = Unit {0}
+Within room rows (Control r word) = Unit {0}
+Within room rows (Entry row) = Unit {0}
+Within room rows (TlbRow i row) = i < rows
+Within room rows (Ram at word) = (at % 4 ≡ 0) × (at + 4 ≤ room)
+Within room rows (DeviceLoad d at) = (0 < d) × (d < 32) × (at < deviceSize)
+Within room rows (DeviceStore at word) = (at < deviceSize) × (at % 4 ≡ 0)
+Within room rows (Raise e) = Unit {0}

@@ -3,5 +3,4 @@ pub mod Tick
 pub mod Apply
 pub mod Parts
 pub mod Step
-pub mod Fits
 pub mod Note

@@ -7,7 +7,7 @@ ghost use Rattle.cp0.specs.Registers.{withRegister};
 ghost use Rattle.isa.specs.declared.instr.ControlRegister.the-variants.{Cause};
 ghost use Rattle.step.specs.Apply.{withHiLo, withCp0, withPc};
 ghost use Rattle.step.specs.Parts.{regsAfter, ramAfter, coreAfter};
-ghost use Rattle.step.specs.Fits.{Fits};
+ghost use Rattle.decide.specs.Range.{Within};
 use bus::read::Bus;
 use bus::store::cause_stored;
 use bus::store::write;
@@ -27,7 +27,7 @@ pub fn write_back(
     regs: &mut [u32; 32],
     ram: &mut [u8],
 )
-    requires { ⌜ Fits (length (now ram)) effect ⌝ }
+    requires { ⌜ Within (length (now ram)) 16 effect ⌝ }
     ensures { λ _. ⌜
         (now (regs .exit) ≡ regsAfter bus printers effect (now (regs .entry)))
         × (now (ram .exit) ≡ ramAfter effect (now (ram .entry)))

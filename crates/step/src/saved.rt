@@ -3,7 +3,7 @@ ghost use mathlib.Core.Path.{_≡_};
 ghost use Prim.Native.Nat.{_<_};
 ghost use lib.ListN.{length, getD};
 ghost use Rattle.tlb.specs.Entry.{noRow};
-ghost use Rattle.step.specs.Fits.{Fits};
+ghost use Rattle.decide.specs.Range.{Within};
 ghost use Rattle.step.specs.Note.{savedOf};
 use decide::effect::Effect;
 use record::Saved;
@@ -26,7 +26,7 @@ fn register_at(regs: &[u32; 32], d: u32) -> u32
 }
 
 pub fn saved(effect: Effect, regs: &[u32; 32], t: [Row; 16], ram: &[u8]) -> Saved
-    requires { ⌜ Fits (length (now ram)) effect ⌝ }
+    requires { ⌜ Within (length (now ram)) 16 effect ⌝ }
     ensures { λ r. ⌜ r ≡ savedOf effect (now (regs .entry)) t (now (ram .entry)) ⌝ }
 {
     match effect {

@@ -14,7 +14,7 @@ mul-regs : tie.Need-mul-regs
 mul-regs c = search needs
 
 element-write-regs : tie.Need-element-write-regs
-element-write-regs c = rw (c .before .effect .given .1) at (c .before .before .before .before .pre)
+element-write-regs c = (rw (c .before .effect .given .1) at (c .before .before .before .before .pre)) .1
 
 enum-known-effect-2 : tie.Need-enum-known-effect-2
 enum-known-effect-2 c = search needs
@@ -29,7 +29,7 @@ mul-regs-2 : tie.Need-mul-regs-2
 mul-regs-2 c = search needs
 
 element-write-regs-2 : tie.Need-element-write-regs-2
-element-write-regs-2 c = rw (c .before .before .effect2 .given .1) at (c .before .before .before .before .before .pre)
+element-write-regs-2 c = (rw (c .before .before .effect2 .given .1) at (c .before .before .before .before .before .pre)) .1
 
 enum-known-effect-3 : tie.Need-enum-known-effect-3
 enum-known-effect-3 c = search needs
@@ -38,7 +38,7 @@ cast-store-word : tie.Need-cast-store-word
 cast-store-word c = search needs
 
 store-word-requires : tie.Need-store-word-requires
-store-word-requires c κs = rw (c .before .before .effect3 .given .1) at (c .before .before .before .before .before .pre)
+store-word-requires c κs = (rw (c .before .before .effect3 .given .1) at (c .before .before .before .before .before .pre)) .1
 
 enum-told : tie.Need-enum-told
 enum-told c = search needs

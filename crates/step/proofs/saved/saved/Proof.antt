@@ -8,13 +8,13 @@ enum-known-effect : tie.Need-enum-known-effect
 enum-known-effect c = search needs
 
 register-at-requires : tie.Need-register-at-requires
-register-at-requires c κs = rw (c .before .effect .given .1) at (c .before .before .before .before .pre)
+register-at-requires c κs = (rw (c .before .effect .given .1) at (c .before .before .before .before .pre)) .1
 
 enum-known-effect-2 : tie.Need-enum-known-effect-2
 enum-known-effect-2 c = search needs
 
 register-at-requires-2 : tie.Need-register-at-requires-2
-register-at-requires-2 c κs = rw (c .before .effect2 .given .1) at (c .before .before .before .before .pre)
+register-at-requires-2 c κs = (rw (c .before .effect2 .given .1) at (c .before .before .before .before .pre)) .1
 
 enum-known-effect-3 : tie.Need-enum-known-effect-3
 enum-known-effect-3 c = search needs
@@ -32,7 +32,7 @@ cast-load-word : tie.Need-cast-load-word
 cast-load-word c = search needs
 
 load-word-requires : tie.Need-load-word-requires
-load-word-requires c κs = rw (c .before .effect4 .given .1) at (c .before .before .before .before .pre)
+load-word-requires c κs = (rw (c .before .effect4 .given .1) at (c .before .before .before .before .pre)) .1
 
 enum-told : tie.Need-enum-told
 enum-told c = search needs
