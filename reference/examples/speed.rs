@@ -1,9 +1,17 @@
 //! Steps per second of the plain emulator on a small loop in RAM, with
-//! translation off and on. Run with `cargo run --release --example speed`.
+//! translation off and on, without records and with records into a journal
+//! that fits in the cache and into the largest one.
+//! Run with `cargo run --release --example speed`.
 
 use std::time::Instant;
 
-use reference::{decode, encode, reset, run, Entry, Status, BUDGET_SPENT, IMAGE_BYTES};
+use reference::{
+    decode, encode, reset, run, run_with_records, Answer, Entry, Status, BUDGET_SPENT, IMAGE_BYTES,
+};
+
+/// `run` and `run_with_records` are both of this type.
+type Run =
+    fn(&mut [u8], &[u8], &[u8], &mut [u8], &mut [u8], &mut [u8], budget: u64, stop: u64) -> Answer;
 
 const RAM: u32 = 0x2000_0000;
 const BUDGET: u32 = 1_000_000;
@@ -22,23 +30,28 @@ const LOOP: [u32; 9] = [
     0xA127_0108, // sb    $7, 0x108($9)
 ];
 
-fn steps_per_second(status: u32, tlb_entry: Option<Entry>) -> f64 {
+/// The machine before the loop's first step; with an entry, it is in use.
+fn machine_at_loop(entry: Option<Entry>) -> [u8; IMAGE_BYTES] {
     let mut image = [0; IMAGE_BYTES];
     reset(&mut image, 1, 1, 0);
     let mut machine = decode(&image);
-    machine.status = Status(status);
+    machine.status = Status(if entry.is_some() { 0x0100_0000 } else { 0 });
     machine.pc = RAM;
     machine.next_pc = RAM + 4;
     machine.registers[9] = RAM;
-    if let Some(entry) = tlb_entry {
-        machine.tlb[15] = entry;
-    }
+    machine.tlb[15] = entry.unwrap_or_default();
     encode(&machine, &mut image);
+    image
+}
+
+fn steps_per_second(run: Run, slots: usize, entry: Option<Entry>) -> f64 {
+    let mut image = machine_at_loop(entry);
     let mut ram = vec![0; 4096];
     for (place, word) in ram.chunks_exact_mut(4).zip(LOOP) {
         place.copy_from_slice(&word.to_le_bytes());
     }
-    let (rom, mut journal) = ([0; 256], vec![0; 256 * 64]);
+    // Not 0, so that no page of the journal is met for the first time below.
+    let (rom, mut journal) = ([0; 256], vec![1; 256 * slots]);
     let start = Instant::now();
     for _ in 0..RUNS {
         let answer = run(&mut image, &rom, &rom, &mut ram, &mut [], &mut journal, BUDGET.into(), 1);
@@ -48,9 +61,16 @@ fn steps_per_second(status: u32, tlb_entry: Option<Entry>) -> f64 {
 }
 
 fn main() {
-    let plain = steps_per_second(0, None);
-    println!("translation off: {:.1} million steps a second", plain / 1e6);
-    let entry = Entry { high: RAM, low: RAM | 0x700 };
-    let mapped = steps_per_second(0x0100_0000, Some(entry));
-    println!("translation on, entry 15: {:.1} million steps a second", mapped / 1e6);
+    let mapped = Entry { high: RAM, low: RAM | 0x700 };
+    let runs: [(&str, Run, usize); 3] = [
+        ("no records", run, 64),
+        ("records, 16 slots", run_with_records, 16),
+        ("records, 16 MiB", run_with_records, 65_536),
+    ];
+    for (name, run, slots) in runs {
+        for (translation, entry) in [("off", None), ("on, entry 15", Some(mapped))] {
+            let million = steps_per_second(run, slots, entry) / 1e6;
+            println!("{name}; translation {translation}: {million:.1} million steps a second");
+        }
+    }
 }

@@ -3,6 +3,7 @@
 use crate::branch;
 use crate::exception::{Exception, BREAKPOINT, OVERFLOW, RESERVED, SYSCALL};
 use crate::machine::Machine;
+use crate::record::Recorder;
 use crate::word::{function, rd, rs, rt, shift_amount};
 
 pub fn add_or_overflow(a: u32, b: u32) -> Result<u32, Exception> {
@@ -41,7 +42,11 @@ fn divide_unsigned(machine: &mut Machine, a: u32, b: u32) {
 
 /// Executes a SPECIAL word and answers the jump target, if it is a jump.
 #[inline]
-pub fn special(machine: &mut Machine, word: u32) -> Result<Option<u32>, Exception> {
+pub fn special<R: Recorder>(
+    machine: &mut Machine,
+    recorder: &mut R,
+    word: u32,
+) -> Result<Option<u32>, Exception> {
     let a = machine.register(rs(word));
     let b = machine.register(rt(word));
     let result = match function(word) {
@@ -53,7 +58,7 @@ pub fn special(machine: &mut Machine, word: u32) -> Result<Option<u32>, Exceptio
         7 => (b as i32 >> (a & 31)) as u32,
         8 => return Ok(Some(a)),
         9 => {
-            machine.set_register(rd(word), branch::link(machine.pc));
+            machine.set_register(recorder, rd(word), branch::link(machine.pc));
             return Ok(Some(a));
         }
         12 => return Err(Exception::plain(SYSCALL)),
@@ -76,7 +81,7 @@ pub fn special(machine: &mut Machine, word: u32) -> Result<Option<u32>, Exceptio
         43 => u32::from(a < b),
         _ => return Err(Exception::plain(RESERVED)),
     };
-    machine.set_register(rd(word), result);
+    machine.set_register(recorder, rd(word), result);
     Ok(None)
 }
 

@@ -2,6 +2,7 @@
 
 use crate::exception::{Exception, RESERVED};
 use crate::machine::Machine;
+use crate::record::Recorder;
 use crate::word::{rs, rt, signed_immediate};
 
 const LINK_REGISTER: u32 = 31;
@@ -19,13 +20,17 @@ pub fn link(pc: u32) -> u32 {
     pc.wrapping_add(8)
 }
 
-pub fn jump_and_link(machine: &mut Machine, word: u32) -> u32 {
-    machine.set_register(LINK_REGISTER, link(machine.pc));
+pub fn jump_and_link<R: Recorder>(machine: &mut Machine, recorder: &mut R, word: u32) -> u32 {
+    machine.set_register(recorder, LINK_REGISTER, link(machine.pc));
     jump_target(machine.pc, word)
 }
 
 /// BLTZ, BGEZ, BLTZAL and BGEZAL; answers the target if the branch is taken.
-pub fn bcond(machine: &mut Machine, word: u32) -> Result<Option<u32>, Exception> {
+pub fn bcond<R: Recorder>(
+    machine: &mut Machine,
+    recorder: &mut R,
+    word: u32,
+) -> Result<Option<u32>, Exception> {
     let negative = (machine.register(rs(word)) as i32) < 0;
     let (taken, links) = match rt(word) {
         0 => (negative, false),
@@ -35,7 +40,7 @@ pub fn bcond(machine: &mut Machine, word: u32) -> Result<Option<u32>, Exception>
         _ => return Err(Exception::plain(RESERVED)),
     };
     if links {
-        machine.set_register(LINK_REGISTER, link(machine.pc));
+        machine.set_register(recorder, LINK_REGISTER, link(machine.pc));
     }
     Ok(taken.then(|| branch_target(machine.pc, word)))
 }

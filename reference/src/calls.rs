@@ -60,16 +60,38 @@ pub fn run(
     run_recorded(image, memory, journal, budget, stop_at_exceptions, &mut NoRecord)
 }
 
-/// Run with a writer of journal records.
+/// Run with any recorder, which is lent each step's slot behind the step.
 pub fn run_recorded<R: Recorder>(
     image: &mut [u8],
-    mut memory: Memory,
+    memory: Memory,
     journal: &mut [u8],
     budget: u64,
     stop_at_exceptions: u64,
     recorder: &mut R,
 ) -> Answer {
-    let refusal = run_refusal(image, &memory, journal.len(), budget);
+    let slots = record_slots(journal.len()) as u32;
+    run_steps(image, memory, journal.len(), budget, stop_at_exceptions, |machine, memory| {
+        let start = machine.next_slot as usize * RECORD_BYTES;
+        recorder.before_step(machine);
+        let entered = step(machine, memory, recorder);
+        move_on(machine, slots);
+        recorder.after_step(machine, journal.get_mut(start..start + RECORD_BYTES));
+        entered
+    })
+}
+
+/// The refusals and the loop of every run. `take_step` also moves the place in
+/// the journal on, and answers whether the step entered an exception.
+#[inline]
+pub(crate) fn run_steps(
+    image: &mut [u8],
+    mut memory: Memory,
+    journal_len: usize,
+    budget: u64,
+    stop_at_exceptions: u64,
+    mut take_step: impl FnMut(&mut Machine, &mut Memory) -> bool,
+) -> Answer {
+    let refusal = run_refusal(image, &memory, journal_len, budget);
     if refusal != 0 {
         return Answer::refused(refusal);
     }
@@ -81,10 +103,7 @@ pub fn run_recorded<R: Recorder>(
         if steps == budget {
             break BUDGET_SPENT;
         }
-        recorder.before_step(&machine);
-        let entered = step(&mut machine, &mut memory, recorder);
-        let record = claim_slot(&mut machine, journal);
-        recorder.after_step(&machine, record);
+        let entered = take_step(&mut machine, &mut memory);
         steps += 1;
         if entered && stops {
             break EXCEPTION;
@@ -112,14 +131,12 @@ fn run_refusal(image: &[u8], memory: &Memory, journal_len: usize, budget: u64) -
     }
 }
 
-/// Moves on hand and next slot on, and lends the slot that the step has taken.
+/// Next slot goes round, on hand rises up to the slots; with none neither moves.
 #[inline]
-fn claim_slot<'a>(machine: &mut Machine, journal: &'a mut [u8]) -> Option<&'a mut [u8]> {
-    let slots = record_slots(journal.len()) as u32;
+pub(crate) fn move_on(machine: &mut Machine, slots: u32) {
     if slots == 0 {
-        return None;
+        return;
     }
-    let start = machine.next_slot as usize * RECORD_BYTES;
     machine.next_slot += 1;
     if machine.next_slot == slots {
         machine.next_slot = 0;
@@ -127,5 +144,4 @@ fn claim_slot<'a>(machine: &mut Machine, journal: &'a mut [u8]) -> Option<&'a mu
     if machine.on_hand < slots {
         machine.on_hand += 1;
     }
-    journal.get_mut(start..start + RECORD_BYTES)
 }

@@ -2,6 +2,7 @@
 
 use crate::exception::{Exception, IP_SOFTWARE, RESERVED};
 use crate::machine::{Entry, Machine};
+use crate::record::Recorder;
 use crate::status::{self, Status};
 use crate::tlb::search;
 use crate::word::{function, rd, rs, rt};
@@ -14,18 +15,22 @@ const NOT_FOUND: u32 = 0x8000_0000;
 
 /// Any word of opcode 0x10. Usability comes before every other test, so that
 /// user mode meets code 11 for undefined words too.
-pub fn cop0(machine: &mut Machine, word: u32) -> Result<(), Exception> {
+pub fn cop0<R: Recorder>(
+    machine: &mut Machine,
+    recorder: &mut R,
+    word: u32,
+) -> Result<(), Exception> {
     if !machine.status.cp0_usable() {
         return Err(Exception::unusable(0));
     }
     match rs(word) {
         0 => {
             let value = read(machine, rd(word))?;
-            machine.set_register(rt(word), value);
+            machine.set_register(recorder, rt(word), value);
             Ok(())
         }
         4 => write(machine, rd(word), machine.register(rt(word))),
-        16..=31 => operate(machine, function(word)),
+        16..=31 => operate(machine, recorder, function(word)),
         _ => Err(Exception::plain(RESERVED)),
     }
 }
@@ -66,7 +71,16 @@ fn entry_number(field: u32) -> usize {
     (field >> 8 & 15) as usize
 }
 
-fn operate(machine: &mut Machine, function: u32) -> Result<(), Exception> {
+fn set_entry<R: Recorder>(machine: &mut Machine, recorder: &mut R, number: usize, pair: Entry) {
+    recorder.tlb_row(number, machine.tlb[number]);
+    machine.tlb[number] = pair;
+}
+
+fn operate<R: Recorder>(
+    machine: &mut Machine,
+    recorder: &mut R,
+    function: u32,
+) -> Result<(), Exception> {
     let pair = Entry { high: machine.entry_hi, low: machine.entry_lo };
     match function {
         1 => {
@@ -74,8 +88,8 @@ fn operate(machine: &mut Machine, function: u32) -> Result<(), Exception> {
             machine.entry_hi = entry.high;
             machine.entry_lo = entry.low;
         }
-        2 => machine.tlb[entry_number(machine.index)] = pair,
-        6 => machine.tlb[entry_number(machine.random)] = pair,
+        2 => set_entry(machine, recorder, entry_number(machine.index), pair),
+        6 => set_entry(machine, recorder, entry_number(machine.random), pair),
         8 => {
             let found = search(&machine.tlb, pair.high, pair.high);
             machine.index = found.map_or(NOT_FOUND, |number| (number as u32) << 8);

@@ -20,18 +20,18 @@ pub fn execute<R: Recorder>(
     word: u32,
 ) -> Result<(), Exception> {
     let target = match opcode(word) {
-        0x00 => special(machine, word)?,
-        0x01 => bcond(machine, word)?,
+        0x00 => special(machine, recorder, word)?,
+        0x01 => bcond(machine, recorder, word)?,
         0x02 => Some(jump_target(machine.pc, word)),
-        0x03 => Some(jump_and_link(machine, word)),
+        0x03 => Some(jump_and_link(machine, recorder, word)),
         0x04..=0x07 => compare(machine, word).then(|| branch_target(machine.pc, word)),
         0x08..=0x0F => {
             let result = immediate(machine, word)?;
-            machine.set_register(rt(word), result);
+            machine.set_register(recorder, rt(word), result);
             None
         }
         0x10 => {
-            cop0(machine, word)?;
+            cop0(machine, recorder, word)?;
             None
         }
         // COP1 to 3, LWC1 to 3, SWC1 to 3: the low two bits are the number.
@@ -39,7 +39,7 @@ pub fn execute<R: Recorder>(
             return Err(Exception::unusable(opcode(word) & 3));
         }
         0x20..=0x26 => {
-            load(machine, memory, word)?;
+            load(machine, memory, recorder, word)?;
             None
         }
         0x28..=0x2E => {

@@ -1,7 +1,6 @@
 //! Take-back by own means: checkpoints and replay, without records.
 //!
-//! Row 8 judges records, whose layout is fixed elsewhere; a history has none
-//! and never answers 8. It covers steps that were run through it on buffers
+//! Row 8 judges records; a history has none and never answers 8. It covers steps that were run through it on buffers
 //! that nobody else has changed since, and answers nothing for all others.
 
 use std::rc::Rc;
@@ -9,8 +8,8 @@ use std::rc::Rc;
 use crate::answer::{Answer, BUDGET_SPENT, NO_REASON};
 use crate::calls::run;
 use crate::image::{decode, encode};
-use crate::rules::keeps_rules;
-use crate::sizes::{budget_fits, journal_fits, paper_fits, ram_fits, record_slots};
+use crate::sizes::{budget_fits, record_slots};
+use crate::take_back::take_back_refusal;
 
 struct Roms {
     execution: Vec<u8>,
@@ -158,20 +157,4 @@ fn place_in_journal(restored: &mut [u8], now: &[u8], journal_len: usize, count: 
     machine.on_hand = now.on_hand - count;
     machine.next_slot = (now.next_slot + slots - count) % slots;
     encode(&machine, restored);
-}
-
-fn take_back_refusal(image: &[u8], ram: usize, paper: usize, journal: usize, count: u64) -> u8 {
-    if !ram_fits(ram) {
-        1
-    } else if !paper_fits(paper) {
-        3
-    } else if !journal_fits(journal) {
-        4
-    } else if !keeps_rules(image, paper, journal) {
-        5
-    } else if count > u64::from(decode(image).on_hand) {
-        7
-    } else {
-        0
-    }
 }

@@ -26,7 +26,12 @@ fn bits_below(address: u32) -> u32 {
 }
 
 #[inline]
-pub fn load(machine: &mut Machine, memory: &Memory, word: u32) -> Result<(), Exception> {
+pub fn load<R: Recorder>(
+    machine: &mut Machine,
+    memory: &Memory,
+    recorder: &mut R,
+    word: u32,
+) -> Result<(), Exception> {
     let address = address_of(machine, word);
     let below = bits_below(address);
     let old = machine.register(rt(word));
@@ -47,7 +52,7 @@ pub fn load(machine: &mut Machine, memory: &Memory, word: u32) -> Result<(), Exc
         }
         _ => return Err(Exception::plain(RESERVED)),
     };
-    machine.set_register(rt(word), value);
+    machine.set_register(recorder, rt(word), value);
     Ok(())
 }
 

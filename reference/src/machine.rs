@@ -1,5 +1,6 @@
 //! The state of the machine between two steps.
 
+use crate::record::Recorder;
 use crate::status::Status;
 
 /// One pair of the translation table.
@@ -54,7 +55,10 @@ impl Machine {
         self.registers[(number & 31) as usize]
     }
 
-    pub(crate) fn set_register(&mut self, number: u32, value: u32) {
+    /// Every write of a register is this one, so none is hidden from `recorder`.
+    #[inline]
+    pub(crate) fn set_register<R: Recorder>(&mut self, recorder: &mut R, number: u32, value: u32) {
+        recorder.register(number & 31, self.register(number));
         self.registers[(number & 31) as usize] = value;
         self.registers[0] = 0;
     }

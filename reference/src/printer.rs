@@ -75,7 +75,7 @@ fn finish<R: Recorder>(machine: &mut Machine, number: usize, paper: &mut [u8], r
     if printer.command == PRINTCHR {
         if count < eighth {
             let place = number * eighth + count;
-            recorder.paper_byte(place, paper[place]);
+            recorder.paper_byte(number, place, paper[place]);
             paper[place] = printer.data0 as u8;
             printer.paper_count += 1;
         } else {

@@ -1,18 +1,30 @@
 //! What a step tells a writer of journal records.
 
-use crate::machine::Machine;
+use crate::machine::{Entry, Machine};
 
-/// Given everything that a step overwrites. The calls are monomorphised, so
-/// that a recorder which leaves a method empty pays nothing for it.
+/// Given everything that a step overwrites outside the words that nearly every
+/// step changes. The calls are monomorphised, so that a recorder which leaves
+/// a method empty pays nothing for it.
+///
+/// A step makes at most one call of `register`, `tlb_row` and `ram_word`
+/// together, and none where it enters an exception.
 pub trait Recorder {
     fn before_step(&mut self, _machine: &Machine) {}
 
+    /// A register is about to be written. Told for register 0 too, which has
+    /// the old value 0 and keeps it.
+    fn register(&mut self, _number: u32, _old: u32) {}
+
+    /// An entry of the translation table is about to be written.
+    fn tlb_row(&mut self, _number: usize, _old: Entry) {}
+
     /// An aligned RAM word is about to be stored to; `place` counts from
-    /// RAM's start. At most once in a step.
+    /// RAM's start.
     fn ram_word(&mut self, _place: usize, _old: u32) {}
 
-    /// A paper byte is about to be printed over. At most eight in a step.
-    fn paper_byte(&mut self, _place: usize, _old: u8) {}
+    /// A paper byte is about to be printed over. At most one for each of the
+    /// eight printers in a step.
+    fn paper_byte(&mut self, _printer: usize, _place: usize, _old: u8) {}
 
     /// `record` is the step's slot of the journal, None where there are no
     /// slots. The machine has moved on, on hand and next slot included.

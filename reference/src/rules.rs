@@ -20,7 +20,7 @@ pub fn keeps_rules(image: &[u8], paper_len: usize, journal_len: usize) -> bool {
         && machine_keeps_rules(&decode(image), paper_len, journal_len)
 }
 
-fn machine_keeps_rules(machine: &Machine, paper_len: usize, journal_len: usize) -> bool {
+pub(crate) fn machine_keeps_rules(machine: &Machine, paper_len: usize, journal_len: usize) -> bool {
     cp0_keeps_rules(machine)
         && time_scale_fits(machine.time_scale.into())
         && printer_delay_fits(machine.printer_delay.into())

@@ -24,7 +24,7 @@ impl Recorder for Undo {
         self.ram.push((place, old));
     }
 
-    fn paper_byte(&mut self, place: usize, old: u8) {
+    fn paper_byte(&mut self, _printer: usize, place: usize, old: u8) {
         self.paper.push((place, old));
     }
 

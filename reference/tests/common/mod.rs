@@ -144,6 +144,59 @@ impl Bench {
         answer
     }
 
+    /// The same with records.
+    pub fn run_records(&mut self, budget: u64, stop: u64) -> Answer {
+        let mut image = self.image();
+        let answer = reference::run_with_records(
+            &mut image,
+            &self.execution,
+            &self.bootstrap,
+            &mut self.ram,
+            &mut self.paper,
+            &mut self.journal,
+            budget,
+            stop,
+        );
+        assert!(answer.number != 0 || keeps_rules(&image, self.paper.len(), self.journal.len()));
+        self.machine = decode(&image);
+        answer
+    }
+
+    /// Takes back from the records; a refusal has to leave everything.
+    pub fn take_back(&mut self, steps: u64) -> Answer {
+        let mut after = self.clone();
+        let mut image = self.image();
+        let answer = reference::take_back(
+            &mut image,
+            &mut after.ram,
+            &mut after.paper,
+            &after.journal,
+            steps,
+        );
+        after.machine = decode(&image);
+        if answer.number != 0 {
+            assert_eq!(answer, Answer::refused(answer.number));
+            assert_eq!(after, *self);
+        } else {
+            assert_eq!((answer.reason, u64::from(answer.steps)), (0, steps));
+            assert!(keeps_rules(&image, after.paper.len(), after.journal.len()));
+            assert_eq!(after.machine.on_hand, self.machine.on_hand - answer.steps);
+        }
+        *self = after;
+        answer
+    }
+
+    pub fn slots(&self) -> u32 {
+        (self.journal.len() / 256) as u32
+    }
+
+    /// The record of the newest step but `age`.
+    pub fn record(&mut self, age: u32) -> &mut [u8] {
+        let slots = self.slots();
+        let slot = (self.machine.next_slot + slots - 1 - age) % slots;
+        &mut self.journal[slot as usize * 256..][..256]
+    }
+
     /// Runs so many steps, all without an exception.
     pub fn run(mut self, steps: u64) -> Bench {
         let answer = self.run_with(steps, 1);

@@ -1,0 +1,84 @@
+//! The layout of the record of a step: 64 words, least significant byte first.
+
+use crate::sizes::RECORD_BYTES;
+
+pub type Record = [u8; RECORD_BYTES];
+
+/// HI, the first of the fourteen words that are saved in every step.
+pub const HI: usize = 0;
+pub const LO: usize = 1;
+pub const PC: usize = 2;
+pub const NEXT_PC: usize = 3;
+pub const INDEX: usize = 4;
+pub const RANDOM: usize = 5;
+pub const ENTRY_HI: usize = 6;
+pub const ENTRY_LO: usize = 7;
+pub const BAD_VADDR: usize = 8;
+pub const STATUS: usize = 9;
+pub const CAUSE: usize = 10;
+pub const EPC: usize = 11;
+pub const TIMER: usize = 12;
+pub const PENDING: usize = 13;
+
+/// Bit k is on where printer k wrote on paper.
+pub const PRINTED: usize = 14;
+
+/// The byte, not the word, at which the eight overwritten paper bytes start.
+pub const PAPER_BYTES: usize = 60;
+
+/// What else was overwritten, and three words on it.
+pub const KIND: usize = 17;
+pub const WHICH: usize = 18;
+pub const OLD: usize = 19;
+pub const OLD_LOW: usize = 20;
+
+pub const NOTHING: u32 = 0;
+pub const REGISTER: u32 = 1;
+pub const TLB_ROW: u32 = 2;
+pub const RAM_WORD: u32 = 3;
+
+/// Eight printers of five words.
+pub const PRINTERS: usize = 21;
+pub const PRINTER_WORDS: usize = 5;
+
+/// Three words that hold nothing end the record.
+pub const UNUSED: usize = 61;
+const WORDS: usize = 64;
+
+#[inline]
+pub fn word(record: &Record, number: usize) -> u32 {
+    let at = number * 4;
+    u32::from_le_bytes([record[at], record[at + 1], record[at + 2], record[at + 3]])
+}
+
+#[inline]
+pub fn set_word(record: &mut Record, number: usize, value: u32) {
+    let at = number * 4;
+    record[at..at + 4].copy_from_slice(&value.to_le_bytes());
+}
+
+/// Whether the bytes keep the layout; places and the image's rules are not
+/// part of it.
+pub fn keeps_layout(record: &Record) -> bool {
+    (UNUSED..WORDS).all(|number| word(record, number) == 0)
+        && kind_keeps_layout(record)
+        && paper_keeps_layout(record)
+}
+
+fn kind_keeps_layout(record: &Record) -> bool {
+    let (which, old, old_low) = (word(record, WHICH), word(record, OLD), word(record, OLD_LOW));
+    match word(record, KIND) {
+        NOTHING => which == 0 && old == 0 && old_low == 0,
+        REGISTER => (1..=31).contains(&which) && old_low == 0,
+        TLB_ROW => which <= 15,
+        RAM_WORD => which % 4 == 0 && old_low == 0,
+        _ => false,
+    }
+}
+
+/// A printer that did not write has no byte.
+fn paper_keeps_layout(record: &Record) -> bool {
+    let printed = word(record, PRINTED);
+    printed <= 0xFF
+        && (0..8).all(|number| printed >> number & 1 != 0 || record[PAPER_BYTES + number] == 0)
+}
