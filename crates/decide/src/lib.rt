@@ -7,7 +7,7 @@ pub mod effect; // what a step changes
 mod hi_lo; // MULT to DIVU, and moves to and from HI and LO
 mod intend; // an instruction to its intent
 mod intent; // what an instruction asks for
-mod lent; // the word around a place of the lent bytes
+pub mod lent; // the word around a place of the lent bytes
 mod operand; // registers as they are read, and the next PC
 mod operate; // what is computed from registers and immediates
 mod part; // bytes and halves of a word

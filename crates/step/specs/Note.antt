@@ -12,8 +12,7 @@ use Rattle.record.specs.declared.Record.{Record}
 use Rattle.decide.specs.declared.effect.Effect.{Effect}
 use Rattle.decide.specs.declared.effect.Effect.the-variants.{Nothing, Register, HiLo, Control, Entry, TlbRow, Ram, DeviceLoad, DeviceStore, Raise}
 use Rattle.step.specs.World.{World, Roms}
-use Rattle.step.specs.Tick.{tickOf}
-use Rattle.step.specs.Step.{decisionIn}
+use Rattle.step.specs.Step.{effectIn}
 
 abbrev pub savedOf : Effect → List ℕ → List Row → List ℕ → Saved
 savedOf Nothing regs t ram = saved.Nothing
@@ -34,6 +33,6 @@ noteOf roms w =
       timer = w .board .clock .timer;
       pending = w .board .line .pending;
       paper = savedPaperOf (w .board .line .printers) (w .paper);
-      saved = savedOf (decisionIn roms (tickOf w) .effect) (w .cpu .regs) (w .cpu .tlb) (w .ram);
+      saved = savedOf (effectIn roms w) (w .cpu .regs) (w .cpu .tlb) (w .ram);
       printers = w .board .line .printers;
     }

@@ -28,6 +28,10 @@ enters (DeviceLoad d offset) = false
 enters (DeviceStore offset word) = false
 enters (Raise e) = true
 
+-- the effect of the step from here
+abbrev pub effectIn : Roms → World → Effect
+effectIn roms w = decisionIn roms (tickOf w) .effect
+
 -- does the step from here enter an exception
 abbrev pub raisesOf : Roms → World → Bool
-raisesOf roms w = enters (decisionIn roms (tickOf w) .effect)
+raisesOf roms w = enters (effectIn roms w)

@@ -1,23 +1,31 @@
 // The effect of a decision on registers and RAM, in place, and on the core, by value. A row of the table and the board are the caller's to change: it holds them as
 // locals and touches them only where the effect says so. Every variant has its own arm, so that each tells the proof which it is.
+ghost use mathlib.Core.List.{[]};
 ghost use mathlib.Core.Path.{_≡_};
 ghost use Prim.Native.Nat.{_+_, _<_, _≤_};
 ghost use lib.ListN.{length};
+ghost use Rattle.bus.specs.Store.{busWriteOf};
 ghost use Rattle.cp0.specs.Registers.{withRegister};
 ghost use Rattle.isa.specs.declared.instr.ControlRegister.the-variants.{Cause};
-ghost use Rattle.step.specs.Apply.{withHiLo, withCp0, withPc};
-ghost use Rattle.step.specs.Parts.{regsAfter, ramAfter, coreAfter};
+ghost use Rattle.step.specs.Apply.{withHiLo, withCp0, withPc, boardStored, appliedOf};
+ghost use Rattle.step.specs.World.{worldOf};
+ghost use Rattle.step.specs.Parts.{regsAfter, ramAfter, coreAfter, rowsAfter, boardAfter};
 ghost use Rattle.decide.specs.Range.{Within};
+use board::places::Sizes;
 use bus::read::Bus;
 use bus::store::cause_stored;
+use bus::store::clock_stored;
+use bus::store::line_stored;
 use bus::store::write;
 use cp0::entry::entered;
 use cp0::registers::Cp0;
 use cp0::registers::with_entry;
 use cp0::registers::with_register;
+use decide::effect::Decision;
 use decide::effect::Effect;
 use isa::instr::ControlRegister;
 use printer::Printer;
+use state::machine::Board;
 use state::machine::Core;
 
 pub fn write_back(
@@ -114,5 +122,80 @@ pub fn with_pc(c: Core, pc: u32, next_pc: u32) -> Core
         pc,
         next_pc,
         cp0,
+    }
+}
+
+fn stored_board(b: Board, offset: u32, word: u32) -> Board
+    ensures { λ r. ⌜ r ≡ boardStored (busWriteOf offset word) b ⌝ }
+{
+    let s = write(offset, word);
+    let settings = b.settings;
+    let clock = clock_stored(s, b.clock);
+    let line = b.line;
+    let stored = line_stored(s, line, settings.installed, settings.delay);
+    Board {
+        clock,
+        settings,
+        line: stored,
+    }
+}
+
+pub fn board_after(b: Board, effect: Effect) -> Board
+    ensures { λ r. ⌜ r ≡ boardAfter effect b ⌝ }
+{
+    match effect {
+        Effect::DeviceStore(offset, word) => stored_board(b, offset, word),
+        Effect::Nothing => b,
+        Effect::Register(_, _) => b,
+        Effect::HiLo(_, _) => b,
+        Effect::Control(_, _) => b,
+        Effect::Entry(_) => b,
+        Effect::TlbRow(_, _) => b,
+        Effect::Ram(_, _) => b,
+        Effect::DeviceLoad(_, _) => b,
+        Effect::Raise(_) => b,
+    }
+}
+
+// What a decision leaves of the core and the board.
+pub struct AfterEffect {
+    pub core: Core,
+    pub board: Board,
+}
+
+// A row of the table is the caller's to set, where the effect says so.
+pub fn applied(
+    core: Core,
+    board: Board,
+    d: Decision,
+    sizes: Sizes,
+    regs: &mut [u32; 32],
+    ram: &mut [u8],
+) -> AfterEffect
+    requires { ⌜ Within (length (now ram)) 16 (d .effect) ⌝ }
+    ensures { λ r. ⌜
+        worldOf (r .core) (r .board) (now (regs .exit)) (rowsAfter (d .effect) []) (now (ram .exit)) []
+        ≡ appliedOf sizes d (worldOf core board (now (regs .entry)) [] (now (ram .entry)) [])
+        ⌝ }
+{
+    let effect = d.effect;
+    let settings = board.settings;
+    let line = board.line;
+    let printers = line.printers;
+    let clock = board.clock;
+    let bus = Bus {
+        sizes,
+        clock,
+        scale: settings.scale,
+        installed: settings.installed,
+        pending: line.pending,
+    };
+    write_back(effect, bus, printers, regs, ram);
+    let next = board_after(board, effect);
+    let after = next.line;
+    let moved = core_after(core, effect, after.pending);
+    AfterEffect {
+        core: with_pc(moved, d.pc, d.next_pc),
+        board: next,
     }
 }

@@ -1,13 +1,17 @@
-// Step parts 1 and 2, but for the printers themselves: the clock group, Random, and both interrupt lines.
+// Step parts 1 and 2: the clock group, Random, the printers, and both interrupt lines.
 ghost use mathlib.Core.Path.{_≡_};
-ghost use Rattle.clock.specs.Tick.{tickedOf};
-ghost use Rattle.step.specs.Tick.{rangLine, cp0Ticked, coreTicked};
-use clock::Clock;
+ghost use Prim.Native.Nat.{_≤_};
+ghost use mathlib.Core.List.{[]};
+ghost use lib.ListN.{length};
+ghost use Rattle.step.specs.World.{worldOf};
+ghost use Rattle.step.specs.Tick.{rangLine, cp0Ticked, coreTicked, tickOf};
 use clock::tick_of;
 use cp0::interrupt::with_line;
 use cp0::random::next_random;
 use cp0::registers::Cp0;
 use printer::cause::shown;
+use printer::tick::tick;
+use state::machine::Board;
 use state::machine::Core;
 
 fn rang_line(rang: bool, cause: u32) -> u32
@@ -45,5 +49,32 @@ pub fn core_ticked(rang: bool, pending: u32, c: Core) -> Core
         pc: c.pc,
         next_pc: c.next_pc,
         cp0,
+    }
+}
+
+pub struct AfterTick {
+    pub core: Core,
+    pub board: Board,
+}
+
+// Neither registers, nor table, nor RAM have a part in it.
+pub fn ticked(core: Core, board: Board, paper: &mut [u8]) -> AfterTick
+    requires { ⌜ length (now paper) ≤ 65536 ⌝ }
+    ensures { λ r. ⌜ worldOf (r .core) (r .board) [] [] [] (now (paper .exit)) ≡ tickOf (worldOf core board [] [] [] (now (paper .entry))) ⌝ }
+{
+    let settings = board.settings;
+    let line = board.line;
+    let printers = line.printers;
+    let printed = tick(printers, line.pending, paper);
+    let beat = tick_of(board.clock);
+    let clock = beat.clock;
+    let next = core_ticked(beat.rang, printed.pending, core);
+    AfterTick {
+        core: next,
+        board: Board {
+            clock,
+            settings,
+            line: printed,
+        },
     }
 }

@@ -1,0 +1,80 @@
+-- Tick, decide, note, apply: that is a step. Over plain values, so that the walk of the code hands its facts over by name.
+use Prim.Native.Nat.{ℕ, _<_}
+use mathlib.Core.Path.{_≡_, sym, ap, _∙_}
+use mathlib.Core.List.{List, []}
+use native.Mathlib.Omega.{arith}
+use lib.ListN.{length}
+use Rattle.board.specs.declared.places.Sizes.{Sizes}
+use Rattle.printer.specs.Saved.{savedPaperOf}
+use Rattle.printer.specs.declared.saved.SavedPaper.{SavedPaper}
+use Rattle.record.specs.declared.Saved.{Saved}
+use Rattle.record.specs.declared.Record.{Record}
+use Rattle.tlb.specs.declared.Row.{Row}
+use Rattle.state.specs.declared.machine.Core.{Core}
+use Rattle.state.specs.declared.machine.Board.{Board}
+use Rattle.decide.specs.Decide.{decideOf}
+use Rattle.decide.specs.Lent.{Lent, Whole, lentOf, sizesOf}
+use Rattle.decide.specs.Range.{Within}
+use Rattle.decide.proofs.Laws.{decide-within}
+use Rattle.decide.specs.declared.effect.Decision.{Decision}
+use Rattle.step.specs.World.{World, Roms, worldOf, romsOf, lentIn}
+use Rattle.step.specs.Tick.{tickOf}
+use Rattle.step.specs.Apply.{appliedOf}
+use Rattle.step.specs.Parts.{rowsAfter}
+use Rattle.step.specs.Step.{decisionIn, effectIn, stepOf}
+use Rattle.step.specs.Note.{savedOf, noteOf}
+use Rattle.step.proofs.Ticks.{tick-parts}
+use Rattle.step.proofs.Applied.{apply-parts}
+
+module _ (execution bootstrap : List ℕ) (core : Core) (board : Board) (t : List Row) (regs ram paper : List ℕ)
+    {core₁ : Core} {board₁ : Board} {paper₁ : List ℕ} {d : Decision}
+    (ticked : worldOf core₁ board₁ [] [] [] paper₁ ≡ tickOf (worldOf core board [] [] [] paper))
+    (decided : d ≡ decideOf core₁ regs t (lentOf execution bootstrap ram)) where
+  abbrev roms : Roms
+  roms = romsOf execution bootstrap
+
+  abbrev before : World
+  before = worldOf core board regs t ram paper
+
+  ticked-is : tickOf before ≡ worldOf core₁ board₁ regs t ram paper₁
+  ticked-is =
+      tick-parts core board paper regs t ram
+      ∙ ap (λ (w : World). worldOf (w .cpu .core) (w .board) regs t ram (w .paper)) (sym ticked)
+
+  decision-is : d ≡ decisionIn roms (tickOf before)
+  decision-is = decided ∙ ap (decisionIn roms) (sym ticked-is)
+
+  pub effect-is : d .effect ≡ effectIn roms before
+  effect-is = ap (λ (d : Decision). d .effect) decision-is
+
+  -- what is noted is the record of the step
+  pub note-is : {kept : SavedPaper} {old : Saved} → kept ≡ savedPaperOf (board .line .printers) paper → old ≡ savedOf (d .effect) regs t ram →
+      _≡_ {A = Record}
+      (record {
+        core = core;
+        timer = board .clock .timer;
+        pending = board .line .pending;
+        paper = kept;
+        saved = old;
+        printers = board .line .printers;
+      })
+      (noteOf roms before)
+  unfolding noteOf
+  note-is k o = rw (k, o, effect-is)
+
+  pub step-is : {sizes : Sizes} {core₂ : Core} {board₂ : Board} {regs₂ ram₂ : List ℕ} → sizes ≡ sizesOf (lentOf execution bootstrap ram) →
+      worldOf core₂ board₂ regs₂ (rowsAfter (d .effect) []) ram₂ [] ≡ appliedOf sizes d (worldOf core₁ board₁ regs [] ram []) →
+      worldOf core₂ board₂ regs₂ (rowsAfter (d .effect) t) ram₂ paper₁ ≡ stepOf roms before
+  unfolding stepOf
+  step-is {sizes} sized applied =
+      ap (λ (w : World). worldOf (w .cpu .core) (w .board) (w .cpu .regs) (rowsAfter (d .effect) t) (w .ram) paper₁) applied
+      ∙ sym (apply-parts sizes d core₁ board₁ regs t ram paper₁)
+      ∙ ap (λ (s : Sizes). appliedOf s d (worldOf core₁ board₁ regs t ram paper₁)) sized
+      ∙ ap (λ (c : Decision). appliedOf (sizesOf (lentOf execution bootstrap ram)) c (worldOf core₁ board₁ regs t ram paper₁)) decided
+      ∙ ap (λ (w : World). appliedOf (sizesOf (lentIn roms w)) (decisionIn roms w) w) (sym ticked-is)
+
+-- what is decided fits a table of sixteen rows and RAM
+pub decided-fits : {lent : Lent} (whole : Whole lent) (core : Core) (regs : List ℕ) (t : List Row) {d : Decision} → length t ≡ 16 → d ≡ decideOf core regs t lent → Within (length (lent .ram)) 16 (d .effect)
+decided-fits {lent} whole core regs t sixteen decided =
+    let some : 0 < length t = omega arith in
+    rw (decided, ← sixteen) (decide-within lent whole t some core regs)
