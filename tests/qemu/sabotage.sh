@@ -64,7 +64,7 @@ sabotage "ADDI without overflow" execute.rs 's/0x08 => add_or_overflow(a, signed
 sabotage "BLEZ as BLTZ" execute.rs 's/0x06 => a as i32 <= 0/0x06 => (a as i32) < 0/'
 sabotage "a jump without its slot" execute.rs 's/machine.pc = machine.next_pc;/machine.pc = target.unwrap_or(machine.next_pc);/'
 sabotage "BGEZAL links only when taken" branch.rs 's/if links {/if links \&\& taken {/'
-sabotage "BLTZAL tests the new link" branch.rs 's/let negative = (machine.register(rs(word)) as i32) < 0;/if rt(word) == 16 { machine.set_register(31, link(machine.pc)); }\n    &/'
+sabotage "BLTZAL tests the new link" branch.rs 's/let negative = (machine.register(rs(word)) as i32) < 0;/if rt(word) == 16 { machine.set_register(recorder, 31, link(machine.pc)); }\n    &/'
 sabotage "branch target from PC" branch.rs 's/pc.wrapping_add(4).wrapping_add(signed_immediate/pc.wrapping_add(signed_immediate/'
 sabotage "branch offset zero-extended" branch.rs 's/(signed_immediate(word) << 2)/((word \& 0xFFFF) << 2)/'
 sabotage "J without the top four bits" branch.rs 's/pc.wrapping_add(4) & 0xF000_0000 | //'
