@@ -5,9 +5,9 @@
 #     tests/c/run.sh ARCHIVE
 #
 # ARCHIVE is the x86-64 archive. On Arm the programs are built by
-# gcc-x86-64-linux-gnu and g++-x86-64-linux-gnu and run by qemu-x86_64.
-# Not tried: a machine with an Arm processor. The Arm branch was run on x86-64
-# only, with a `uname` that says aarch64.
+# gcc-x86-64-linux-gnu and g++-x86-64-linux-gnu and run by qemu-x86_64 with the
+# shared libraries of libc6:amd64 and libstdc++6:amd64. (Those of the cross
+# compiler, by -L, stop in the loader: "stack smashing detected".)
 set -eu
 
 if [ $# -ne 1 ] || [ ! -f "$1" ]; then
@@ -24,7 +24,7 @@ x86_64)
     ;;
 aarch64)
     cc=${CC:-x86_64-linux-gnu-gcc} cxx=${CXX:-x86_64-linux-gnu-g++}
-    runner="qemu-x86_64 -L /usr/x86_64-linux-gnu"
+    runner=qemu-x86_64
     ;;
 *)
     echo "$0: neither x86_64 nor aarch64" >&2

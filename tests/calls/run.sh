@@ -9,9 +9,8 @@
 # On Arm the program is built for x86-64 and run by qemu-x86_64. That needs
 # gcc-x86-64-linux-gnu, qemu-user, and Rust's own library for
 # x86_64-unknown-linux-gnu: libstd-rust-dev:amd64 where cargo is Debian's
-# (dpkg --add-architecture amd64), or `rustup target add`.
-# Not tried: a machine with an Arm processor. The Arm branch was run on x86-64
-# only, with a `uname` that says aarch64.
+# (dpkg --add-architecture amd64), or `rustup target add`; and libc6:amd64
+# to run with.
 set -eu
 
 if [ $# -lt 1 ] || [ $# -gt 2 ]; then
@@ -37,9 +36,7 @@ x86_64)
     ;;
 aarch64)
     : "${CARGO_TARGET_X86_64_UNKNOWN_LINUX_GNU_LINKER:=x86_64-linux-gnu-gcc}"
-    # Shared libraries for x86-64 are looked for in the cross compiler's folder
-    # first, then where a package of that architecture puts them.
-    : "${CARGO_TARGET_X86_64_UNKNOWN_LINUX_GNU_RUNNER:=qemu-x86_64 -L /usr/x86_64-linux-gnu}"
+    : "${CARGO_TARGET_X86_64_UNKNOWN_LINUX_GNU_RUNNER:=qemu-x86_64}"
     export CARGO_TARGET_X86_64_UNKNOWN_LINUX_GNU_LINKER
     export CARGO_TARGET_X86_64_UNKNOWN_LINUX_GNU_RUNNER
     exec cargo run --quiet --release --locked --offline --target x86_64-unknown-linux-gnu -- "$@"
