@@ -1,8 +1,16 @@
 -- The lent journal and the image's two words for it, as the ring of `ring`.
-use Prim.Native.Nat.{ℕ, _/_, _≤_}
+use Prim.Native.Nat.{ℕ, _+_, _*_, _/_, _≤_, min}
+use mathlib.Core.Bool.{cond}
 use mathlib.Core.List.{List}
+use lib.Dec.{eqb}
 use lib.ListN.{length}
-use Rattle.ring.specs.Slots.{Ring, Sound}
+use lib.Seq.{sets}
+use Rattle.word.specs.Lists.{flat}
+use Rattle.word.specs.Little.{toBytes}
+use Rattle.ring.specs.Slots.{Ring, Sound, nextSlot, put}
+use Rattle.record.specs.declared.Record.{Record}
+use Rattle.record.specs.declared.Saved.{Saved}
+use Rattle.record.specs.Layout.{savedWords, recordBytes}
 use Rattle.state.specs.declared.machine.Journal.{Journal}
 
 -- journal length / 256
@@ -16,3 +24,32 @@ ringOf mark journal = record { bytes = journal; hand = mark .«on_hand»; next =
 pub record Ready (journal : List ℕ) (mark : Journal) : Type 0 where
   pub few : length journal ≤ 16777216
   pub sound : Sound 256 (slotsOf journal) (ringOf mark journal)
+
+-- A step's record is laid down in two parts, so that the old values need not be kept while the step is decided.
+
+-- Before the step: the whole record at the next slot, its saved words only holding their place. Neither word moves, since the record does not count before
+-- it is ended.
+abbrev pub begunOf : Journal → Record → List ℕ → List ℕ
+begunOf mark r journal = cond (eqb (slotsOf journal) 0) journal (put journal (256 * mark .«next_slot») (recordBytes r))
+
+-- After the decision: the four words of what the step overwrites, which are known only now, at byte 68 of the same slot. Then the record is on hand.
+abbrev pub endedOf : Journal → Saved → List ℕ → Ring
+endedOf mark s journal =
+    cond (eqb (slotsOf journal) 0) (ringOf mark journal)
+    (record {
+      bytes = sets journal (256 * mark .«next_slot» + 68) (flat (toBytes 4) (savedWords s));
+      hand = min (slotsOf journal) (mark .«on_hand» + 1);
+      next = nextSlot (slotsOf journal) (mark .«next_slot»);
+    })
+
+-- the record that the two parts come to: all that was begun, and what was saved at the end
+abbrev pub withSaved : Saved → Record → Record
+withSaved s r =
+    record {
+      core = r .core;
+      timer = r .timer;
+      pending = r .pending;
+      paper = r .paper;
+      saved = s;
+      printers = r .printers;
+    }

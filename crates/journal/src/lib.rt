@@ -2,15 +2,21 @@
 ghost use mathlib.Core.Path.{_≡_};
 ghost use Prim.Native.Nat.{_*_, _/_, _<_};
 ghost use lib.ListN.{length};
-ghost use Rattle.ring.specs.Slots.{put, written};
+ghost use Rattle.ring.specs.Slots.{put};
 ghost use Rattle.record.specs.Layout.{recordBytes};
-ghost use Rattle.journal.specs.Journal.{slotsOf, ringOf, Ready};
+ghost use Rattle.journal.specs.Journal.{ringOf, Ready, begunOf, endedOf};
+use memory::words::put_words;
 use record::Record;
+use record::Saved;
 use record::encode::encode;
+use record::encode::saved_words;
 use state::machine::Journal;
 
 // The bytes of a slot. Request L4 makes it 512, here and in specs/Journal.antt.
 pub const SLOT: usize = 256;
+
+// Where in a slot the words of what is saved begin (docs/RECORD.md).
+const SAVED: usize = 68;
 
 fn put_record(journal: &mut [u8], slot: usize, r: Record)
     requires { ⌜ slot < length (now journal) / 256 ⌝ }
@@ -21,13 +27,23 @@ fn put_record(journal: &mut [u8], slot: usize, r: Record)
     encode(r, &mut journal[at..end]);
 }
 
-// With no slots nothing is written and neither word moves.
-pub fn noted(journal: &mut [u8], mark: Journal, r: Record) -> Journal
+// The first part of a step's record, before the step: all of it. What it says of the saved words is written over by `ended`. With no slots nothing is written.
+pub fn begun(journal: &mut [u8], mark: Journal, r: Record)
     requires { ⌜ Ready (now journal) mark ⌝ }
-    ensures { λ m. ⌜
-        ringOf m (now (journal .exit))
-        ≡ written 256 (slotsOf (now (journal .entry))) (recordBytes r) (ringOf mark (now (journal .entry)))
-        ⌝ }
+    ensures { λ _. ⌜ now (journal .exit) ≡ begunOf mark r (now (journal .entry)) ⌝ }
+{
+    let slots = journal.len() / SLOT;
+    let next = mark.next_slot as usize;
+    if slots == 0 {
+        return;
+    }
+    put_record(journal, next, r);
+}
+
+// The second part, once the step is decided: what it overwrites. Only now the record counts. With no slots nothing is written and neither word moves.
+pub fn ended(journal: &mut [u8], mark: Journal, s: Saved) -> Journal
+    requires { ⌜ Ready (now journal) mark ⌝ }
+    ensures { λ m. ⌜ ringOf m (now (journal .exit)) ≡ endedOf mark s (now (journal .entry)) ⌝ }
 {
     let slots = journal.len() / SLOT;
     let hand = mark.on_hand;
@@ -35,7 +51,8 @@ pub fn noted(journal: &mut [u8], mark: Journal, r: Record) -> Journal
     if slots == 0 {
         return mark;
     }
-    put_record(journal, next, r);
+    let words = saved_words(s);
+    put_words(&words, journal, SLOT * next + SAVED);
     let after = ring::next_slot(slots, next) as u32;
     if (hand as usize) < slots {
         return Journal {

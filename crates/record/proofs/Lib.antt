@@ -1,3 +1,4 @@
 pub mod Stored
 pub mod RoundTrip
 pub mod Ranges
+pub mod Later

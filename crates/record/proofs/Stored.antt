@@ -46,7 +46,7 @@ printer-bytes ps = sym (flat-flat (toBytes 4) printerWords ps)
 
 -- ---- the whole
 
-length-saved : (s : Saved) → length (savedWords s) ≡ 4
+pub length-saved : (s : Saved) → length (savedWords s) ≡ 4
 length-saved Nothing = refl
 length-saved (Register _ _) = refl
 length-saved (TlbRow _ _) = refl

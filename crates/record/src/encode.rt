@@ -27,7 +27,8 @@ fn small_words(timer: u32, pending: u32, mask: u32, bytes: [u8; 8]) -> [u32; 5]
     ]
 }
 
-fn saved_words(s: Saved) -> [u32; 4]
+// What is saved, as words. A record that is laid down in two parts gets them last.
+pub fn saved_words(s: Saved) -> [u32; 4]
     ensures { λ r. ⌜ r ≡ savedWords s ⌝ }
 {
     match s {

@@ -1,3 +1,4 @@
 pub mod Effects
 pub mod Ticks
 pub mod Applied
+pub mod Held

@@ -4,3 +4,4 @@ pub mod Apply
 pub mod Parts
 pub mod Step
 pub mod Note
+pub mod Held

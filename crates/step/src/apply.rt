@@ -1,15 +1,15 @@
-// The effect of a decision on registers and RAM, in place, and on the core, by value. A row of the table and the board are the caller's to change: it holds them as
-// locals and touches them only where the effect says so. Every variant has its own arm, so that each tells the proof which it is.
-ghost use mathlib.Core.List.{[]};
+// The effect of a decision on registers, RAM and the printers' words, in place, and on the rest by value. A row of the table is the caller's to change: it holds the
+// table as a local and touches it only where the effect says so. Every variant has its own arm, so that each tells the proof which it is.
 ghost use mathlib.Core.Path.{_≡_};
 ghost use Prim.Native.Nat.{_+_, _<_, _≤_};
 ghost use lib.ListN.{length};
 ghost use Rattle.bus.specs.Store.{busWriteOf};
 ghost use Rattle.cp0.specs.Registers.{withRegister};
 ghost use Rattle.isa.specs.declared.instr.ControlRegister.the-variants.{Cause};
-ghost use Rattle.step.specs.Apply.{withHiLo, withCp0, withPc, boardStored, appliedOf};
-ghost use Rattle.step.specs.World.{worldOf};
-ghost use Rattle.step.specs.Parts.{regsAfter, ramAfter, coreAfter, rowsAfter, boardAfter};
+ghost use Rattle.held.specs.Board.{printersIn, Told};
+ghost use Rattle.step.specs.Apply.{withHiLo, withCp0, withPc, boardStored};
+ghost use Rattle.step.specs.Parts.{regsAfter, ramAfter, coreAfter};
+ghost use Rattle.step.specs.Held.{HeldIs, ApplyIs};
 ghost use Rattle.decide.specs.Range.{Within};
 use board::places::Sizes;
 use bus::read::Bus;
@@ -23,21 +23,26 @@ use cp0::registers::with_entry;
 use cp0::registers::with_register;
 use decide::effect::Decision;
 use decide::effect::Effect;
+use held::Held;
+use held::repack;
+use held::unpacked;
 use isa::instr::ControlRegister;
-use printer::Printer;
+use printer::Line;
+use printer::tick::any_busy;
 use state::machine::Board;
 use state::machine::Core;
+use state::machine::Settings;
 
 pub fn write_back(
     effect: Effect,
     bus: Bus,
-    printers: [Printer; 8],
+    words: &[u32; 40],
     regs: &mut [u32; 32],
     ram: &mut [u8],
 )
     requires { ⌜ Within (length (now ram)) 16 effect ⌝ }
     ensures { λ _. ⌜
-        (now (regs .exit) ≡ regsAfter bus printers effect (now (regs .entry)))
+        (now (regs .exit) ≡ regsAfter bus (printersIn (now (words .entry))) effect (now (regs .entry)))
         × (now (ram .exit) ≡ ramAfter effect (now (ram .entry)))
         ⌝ }
 {
@@ -48,7 +53,7 @@ pub fn write_back(
         }
         Effect::DeviceLoad(d, offset) => {
             let at = d as usize;
-            regs[at] = bus::read::read(bus, printers, offset);
+            regs[at] = bus::read::read(bus, unpacked(words), offset);
         }
         Effect::Ram(at, word) => memory::store_word(ram, at as usize, word),
         Effect::Nothing => {}
@@ -140,62 +145,97 @@ fn stored_board(b: Board, offset: u32, word: u32) -> Board
     }
 }
 
-pub fn board_after(b: Board, effect: Effect) -> Board
-    ensures { λ r. ⌜ r ≡ boardAfter effect b ⌝ }
+// A store in the device area, on the parts that a run holds.
+fn store_device(
+    offset: u32,
+    word: u32,
+    held: Held,
+    settings: Settings,
+    words: &mut [u32; 40],
+) -> Held
+    ensures { λ r. ⌜ HeldIs settings (Effect.DeviceStore offset word) held (now (words .entry)) r (now (words .exit)) ⌝ }
 {
-    match effect {
-        Effect::DeviceStore(offset, word) => stored_board(b, offset, word),
-        Effect::Nothing => b,
-        Effect::Register(_, _) => b,
-        Effect::HiLo(_, _) => b,
-        Effect::Control(_, _) => b,
-        Effect::Entry(_) => b,
-        Effect::TlbRow(_, _) => b,
-        Effect::Ram(_, _) => b,
-        Effect::DeviceLoad(_, _) => b,
-        Effect::Raise(_) => b,
+    let line = Line {
+        printers: unpacked(words),
+        pending: held.pending,
+    };
+    let clock = held.clock;
+    let next = stored_board(
+        Board {
+            clock,
+            settings,
+            line,
+        },
+        offset,
+        word,
+    );
+    let beat = next.clock;
+    let after = next.line;
+    let all = after.printers;
+    repack(all, words);
+    Held {
+        clock: beat,
+        pending: after.pending,
+        busy: any_busy(all),
     }
 }
 
-// What a decision leaves of the core and the board.
+fn held_after(effect: Effect, held: Held, settings: Settings, words: &mut [u32; 40]) -> Held
+    requires { ⌜ Told held (now words) ⌝ }
+    ensures { λ r. ⌜ HeldIs settings effect held (now (words .entry)) r (now (words .exit)) ⌝ }
+{
+    match effect {
+        Effect::DeviceStore(offset, word) => store_device(offset, word, held, settings, words),
+        Effect::Nothing => held,
+        Effect::Register(_, _) => held,
+        Effect::HiLo(_, _) => held,
+        Effect::Control(_, _) => held,
+        Effect::Entry(_) => held,
+        Effect::TlbRow(_, _) => held,
+        Effect::Ram(_, _) => held,
+        Effect::DeviceLoad(_, _) => held,
+        Effect::Raise(_) => held,
+    }
+}
+
+// What a decision leaves of the core and of what is held of the board.
 pub struct AfterEffect {
     pub core: Core,
-    pub board: Board,
+    pub held: Held,
 }
 
 // A row of the table is the caller's to set, where the effect says so.
 pub fn applied(
     core: Core,
-    board: Board,
+    held: Held,
+    settings: Settings,
+    words: &mut [u32; 40],
     d: Decision,
     sizes: Sizes,
     regs: &mut [u32; 32],
     ram: &mut [u8],
 ) -> AfterEffect
     requires { ⌜ Within (length (now ram)) 16 (d .effect) ⌝ }
+    requires { ⌜ Told held (now words) ⌝ }
     ensures { λ r. ⌜
-        worldOf (r .core) (r .board) (now (regs .exit)) (rowsAfter (d .effect) []) (now (ram .exit)) []
-        ≡ appliedOf sizes d (worldOf core board (now (regs .entry)) [] (now (ram .entry)) [])
+        ApplyIs settings sizes d core held (now (words .entry)) (now (regs .entry)) (now (ram .entry)) r
+        (now (words .exit)) (now (regs .exit)) (now (ram .exit))
         ⌝ }
 {
     let effect = d.effect;
-    let settings = board.settings;
-    let line = board.line;
-    let printers = line.printers;
-    let clock = board.clock;
+    let clock = held.clock;
     let bus = Bus {
         sizes,
         clock,
         scale: settings.scale,
         installed: settings.installed,
-        pending: line.pending,
+        pending: held.pending,
     };
-    write_back(effect, bus, printers, regs, ram);
-    let next = board_after(board, effect);
-    let after = next.line;
-    let moved = core_after(core, effect, after.pending);
+    write_back(effect, bus, words, regs, ram);
+    let next = held_after(effect, held, settings, words);
+    let moved = core_after(core, effect, next.pending);
     AfterEffect {
         core: with_pc(moved, d.pc, d.next_pc),
-        board: next,
+        held: next,
     }
 }

@@ -1,18 +1,23 @@
 // Step parts 1 and 2: the clock group, Random, the printers, and both interrupt lines.
 ghost use mathlib.Core.Path.{_≡_};
 ghost use Prim.Native.Nat.{_≤_};
-ghost use mathlib.Core.List.{[]};
 ghost use lib.ListN.{length};
-ghost use Rattle.step.specs.World.{worldOf};
-ghost use Rattle.step.specs.Tick.{rangLine, cp0Ticked, coreTicked, tickOf};
+ghost use Rattle.printer.specs.Tick.{anyBusy};
+ghost use Rattle.held.specs.Board.{printersIn, Told};
+ghost use Rattle.step.specs.Tick.{rangLine, cp0Ticked, coreTicked};
+ghost use Rattle.step.specs.Held.{PrintedIs, TickIs};
 use clock::tick_of;
 use cp0::interrupt::with_line;
 use cp0::random::next_random;
 use cp0::registers::Cp0;
+use held::Held;
+use held::repack;
+use held::unpacked;
 use printer::cause::shown;
+use printer::tick::any_busy;
 use printer::tick::tick;
-use state::machine::Board;
 use state::machine::Core;
+use state::machine::Settings;
 
 fn rang_line(rang: bool, cause: u32) -> u32
     ensures { λ r. ⌜ r ≡ rangLine rang cause ⌝ }
@@ -54,27 +59,58 @@ pub fn core_ticked(rang: bool, pending: u32, c: Core) -> Core
 
 pub struct AfterTick {
     pub core: Core,
-    pub board: Board,
+    pub held: Held,
+}
+
+pub struct AfterPrinters {
+    pub pending: u32,
+    pub busy: bool,
+}
+
+// Printers that all stand still are not looked at (printer/proofs/Ticks: idle-tick).
+fn printed(words: &mut [u32; 40], pending: u32, busy: bool, paper: &mut [u8]) -> AfterPrinters
+    requires { ⌜ length (now paper) ≤ 65536 ⌝ }
+    requires { ⌜ busy ≡ anyBusy (printersIn (now words)) ⌝ }
+    ensures { λ r. ⌜
+        PrintedIs (now (words .entry)) pending (now (paper .entry)) r (now (words .exit)) (now (paper .exit))
+        ⌝ }
+{
+    if !busy {
+        return AfterPrinters { pending, busy };
+    }
+    let line = tick(unpacked(words), pending, paper);
+    let all = line.printers;
+    repack(all, words);
+    AfterPrinters {
+        pending: line.pending,
+        busy: any_busy(all),
+    }
 }
 
 // Neither registers, nor table, nor RAM have a part in it.
-pub fn ticked(core: Core, board: Board, paper: &mut [u8]) -> AfterTick
+pub fn ticked(
+    core: Core,
+    held: Held,
+    settings: Settings,
+    words: &mut [u32; 40],
+    paper: &mut [u8],
+) -> AfterTick
     requires { ⌜ length (now paper) ≤ 65536 ⌝ }
-    ensures { λ r. ⌜ worldOf (r .core) (r .board) [] [] [] (now (paper .exit)) ≡ tickOf (worldOf core board [] [] [] (now (paper .entry))) ⌝ }
+    requires { ⌜ Told held (now words) ⌝ }
+    ensures { λ r. ⌜
+        TickIs settings core held (now (words .entry)) (now (paper .entry)) r (now (words .exit)) (now (paper .exit))
+        ⌝ }
 {
-    let settings = board.settings;
-    let line = board.line;
-    let printers = line.printers;
-    let printed = tick(printers, line.pending, paper);
-    let beat = tick_of(board.clock);
+    let printed = printed(words, held.pending, held.busy, paper);
+    let beat = tick_of(held.clock);
     let clock = beat.clock;
     let next = core_ticked(beat.rang, printed.pending, core);
     AfterTick {
         core: next,
-        board: Board {
+        held: Held {
             clock,
-            settings,
-            line: printed,
+            pending: printed.pending,
+            busy: printed.busy,
         },
     }
 }

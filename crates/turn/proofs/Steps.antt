@@ -6,6 +6,7 @@ use native.Mathlib.Omega.{arith}
 use lib.ListN.{length}
 use Rattle.board.specs.declared.places.Sizes.{Sizes}
 use Rattle.printer.specs.Saved.{savedPaperOf}
+use Rattle.printer.specs.declared.Printer.{Printer}
 use Rattle.printer.specs.declared.saved.SavedPaper.{SavedPaper}
 use Rattle.record.specs.declared.Saved.{Saved}
 use Rattle.record.specs.declared.Record.{Record}
@@ -25,6 +26,13 @@ use Rattle.step.specs.Step.{decisionIn, effectIn, stepOf}
 use Rattle.step.specs.Note.{savedOf, noteOf}
 use Rattle.step.proofs.Ticks.{tick-parts}
 use Rattle.step.proofs.Applied.{apply-parts}
+use Rattle.ring.specs.Slots.{Ring, written}
+use Rattle.record.specs.Layout.{recordBytes}
+use Rattle.journal.specs.Journal.{slotsOf, ringOf, Ready, begunOf, endedOf, withSaved}
+use Rattle.journal.proofs.TwoParts.{begun-ended, begun-ready}
+use Rattle.state.specs.declared.machine.Journal.{Journal}
+use Rattle.held.specs.Board.{printersIn}
+use Rattle.held.proofs.Board.{length-printers}
 
 module _ (execution bootstrap : List ℕ) (core : Core) (board : Board) (t : List Row) (regs ram paper : List ℕ)
     {core₁ : Core} {board₁ : Board} {paper₁ : List ℕ} {d : Decision}
@@ -48,7 +56,8 @@ module _ (execution bootstrap : List ℕ) (core : Core) (board : Board) (t : Lis
   effect-is = ap (λ (d : Decision). d .effect) decision-is
 
   -- what is noted is the record of the step
-  pub note-is : {kept : SavedPaper} {old : Saved} → kept ≡ savedPaperOf (board .line .printers) paper → old ≡ savedOf (d .effect) regs t ram →
+  pub note-is : {kept : SavedPaper} {old : Saved} {printers : List Printer} → kept ≡ savedPaperOf (board .line .printers) paper →
+      old ≡ savedOf (d .effect) regs t ram → printers ≡ board .line .printers →
       _≡_ {A = Record}
       (record {
         core = core;
@@ -56,11 +65,11 @@ module _ (execution bootstrap : List ℕ) (core : Core) (board : Board) (t : Lis
         pending = board .line .pending;
         paper = kept;
         saved = old;
-        printers = board .line .printers;
+        printers = printers;
       })
       (noteOf roms before)
   unfolding noteOf
-  note-is k o = rw (k, o, effect-is)
+  note-is k o p = rw (k, o, effect-is, p)
 
   pub step-is : {sizes : Sizes} {core₂ : Core} {board₂ : Board} {regs₂ ram₂ : List ℕ} → sizes ≡ sizesOf (lentOf execution bootstrap ram) →
       worldOf core₂ board₂ regs₂ (rowsAfter (d .effect) []) ram₂ [] ≡ appliedOf sizes d (worldOf core₁ board₁ regs [] ram []) →
@@ -78,3 +87,17 @@ pub decided-fits : {lent : Lent} (whole : Whole lent) (core : Core) (regs : List
 decided-fits {lent} whole core regs t sixteen decided =
     let some : 0 < length t = omega arith in
     rw (decided, ← sixteen) (decide-within lent whole t some core regs)
+
+-- the two parts of a record, put down one after the other, are the record in its slot
+pub ring-is : (mark : Journal) (journal : List ℕ) → Ready journal mark → (r : Record) (old : Saved) {begun : List ℕ} {left : Ring} {note : Record} →
+    length (r .printers) ≡ 8 → begun ≡ begunOf mark r journal → left ≡ endedOf mark old begun → withSaved old r ≡ note →
+    left ≡ written 256 (slotsOf journal) (recordBytes note) (ringOf mark journal)
+ring-is mark journal ready r old eight first last noted =
+    last ∙ ap (endedOf mark old) first ∙ begun-ended mark r old journal eight ready
+    ∙ ap (λ (n : Record). written 256 (slotsOf journal) (recordBytes n) (ringOf mark journal)) noted
+
+pub still-ready : {mark : Journal} {journal : List ℕ} (r : Record) {begun : List ℕ} → Ready journal mark → length (r .printers) ≡ 8 → begun ≡ begunOf mark r journal → Ready begun mark
+still-ready {mark} {journal} r ready eight first = rw first (begun-ready mark r journal eight ready)
+
+pub eight-held : {printers : List Printer} (words : List ℕ) → printers ≡ printersIn words → length printers ≡ 8
+eight-held words e = ap (λ (l : List Printer). length l) e ∙ length-printers words

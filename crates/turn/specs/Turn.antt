@@ -1,4 +1,4 @@
--- One step with its record: what is asked of the lent buffers, and all that a turn leaves.
+-- One step with its record: what is asked of what a run holds and lends, and all that a turn leaves.
 use Prim.Native.Nat.{ℕ, _≤_}
 use mathlib.Core.Path.{_≡_}
 use mathlib.Core.List.{List}
@@ -8,27 +8,33 @@ use Rattle.record.specs.Layout.{recordBytes}
 use Rattle.journal.specs.Journal.{slotsOf, ringOf, Ready}
 use Rattle.tlb.specs.declared.Row.{Row}
 use Rattle.state.specs.declared.machine.Core.{Core}
-use Rattle.state.specs.declared.machine.Board.{Board}
 use Rattle.state.specs.declared.machine.Journal.{Journal}
+use Rattle.state.specs.declared.machine.Settings.{Settings}
 use Rattle.decide.specs.Lent.{Whole, lentOf}
+use Rattle.held.specs.Board.{boardOf, Told}
+use Rattle.held.specs.declared.Held.{Held}
 use Rattle.step.specs.World.{World, worldOf, romsOf}
 use Rattle.step.specs.Parts.{rowsAfter}
 use Rattle.step.specs.Step.{effectIn, stepOf}
 use Rattle.step.specs.Note.{noteOf}
 use Rattle.turn.specs.declared.Turned.{Turned}
 
-pub record Fit (execution bootstrap ram paper journal : List ℕ) (mark : Journal) : Type 0 where
+pub record Fit (execution bootstrap : List ℕ) (held : Held) (words ram paper journal : List ℕ) (mark : Journal) : Type 0 where
+  pub told : Told held words
   pub whole : Whole (lentOf execution bootstrap ram)
   pub short : length paper ≤ 65536
   pub ready : Ready journal mark
 
--- regs′, ram′, paper′ and journal′ are what the turn leaves behind the references
-pub record TurnIs (execution bootstrap : List ℕ) (core : Core) (board : Board) (t : List Row) (regs ram paper journal : List ℕ) (mark : Journal)
-    (r : Turned) (regs′ ram′ paper′ journal′ : List ℕ) : Type 0 where
+-- words′, regs′, ram′, paper′ and journal′ are what the turn leaves behind the references
+pub record TurnIs (execution bootstrap : List ℕ) (core : Core) (held : Held) (settings : Settings) (words : List ℕ) (t : List Row) (regs ram paper journal : List ℕ)
+    (mark : Journal) (r : Turned) (words′ regs′ ram′ paper′ journal′ : List ℕ) : Type 0 where
   pub world-is :
-      worldOf (r .core) (r .board) regs′ (rowsAfter (r .effect) t) ram′ paper′
-      ≡ stepOf (romsOf execution bootstrap) (worldOf core board regs t ram paper)
-  pub effect-is : r .effect ≡ effectIn (romsOf execution bootstrap) (worldOf core board regs t ram paper)
+      worldOf (r .core) (boardOf (r .held) settings words′) regs′ (rowsAfter (r .effect) t) ram′ paper′
+      ≡ stepOf (romsOf execution bootstrap) (worldOf core (boardOf held settings words) regs t ram paper)
+  pub effect-is : r .effect ≡ effectIn (romsOf execution bootstrap) (worldOf core (boardOf held settings words) regs t ram paper)
   pub ring-is :
       ringOf (r .mark) journal′
-      ≡ written 256 (slotsOf journal) (recordBytes (noteOf (romsOf execution bootstrap) (worldOf core board regs t ram paper))) (ringOf mark journal)
+      ≡ written 256 (slotsOf journal)
+      (recordBytes (noteOf (romsOf execution bootstrap) (worldOf core (boardOf held settings words) regs t ram paper)))
+      (ringOf mark journal)
+  pub told : Told (r .held) words′

@@ -22,6 +22,9 @@ enum-known-effect-2 c = search needs
 cast-at-2 : tie.Need-cast-at-2
 cast-at-2 c = search needs
 
+unpacked-requires : tie.Need-unpacked-requires
+unpacked-requires c κs = search needs
+
 read-requires : tie.Need-read-requires
 read-requires c κs = search needs
 
@@ -29,7 +32,7 @@ mul-regs-2 : tie.Need-mul-regs-2
 mul-regs-2 c = search needs
 
 element-write-regs-2 : tie.Need-element-write-regs-2
-element-write-regs-2 c = (rw (c .before .before .effect2 .given .1) at (c .before .before .before .before .before .pre)) .1
+element-write-regs-2 c = (rw (c .before .before .before .effect2 .given .1) at (c .before .before .before .before .before .before .pre)) .1
 
 enum-known-effect-3 : tie.Need-enum-known-effect-3
 enum-known-effect-3 c = search needs
@@ -65,7 +68,7 @@ returns : tie.Need-returns
 returns c = rw (c .before .effect .given .1) (refl, refl)
 
 returns-2 : tie.Need-returns-2
-returns-2 c = rw (c .before .before .effect2 .given .1, c .read .ensures) (refl, refl)
+returns-2 c = rw (c .before .before .before .effect2 .given .1, c .read .ensures, c .before .unpacked .ensures) (refl, refl)
 
 same-length : tie.Need-same-length
 same-length c = search needs
@@ -104,6 +107,7 @@ write-back-spec =
     element-write-regs
     enum-known-effect-2
     cast-at-2
+    unpacked-requires
     read-requires
     mul-regs-2
     element-write-regs-2

@@ -1,0 +1,13 @@
+pub mod Belows
+pub mod Parts
+pub mod Sound
+pub mod Image
+pub mod Sources
+pub mod Causes
+pub mod Control
+pub mod Printers
+pub mod Ticked
+pub mod Device
+pub mod Applied
+pub mod Lengths
+pub mod Keeps

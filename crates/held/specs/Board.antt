@@ -1,0 +1,33 @@
+-- How a run holds the eight printers: as their forty words, in the order of the image and of a step's record.
+use Prim.Native.Nat.{ℕ, _+_, _*_}
+use mathlib.Core.List.{List}
+use mathlib.Core.Path.{_≡_}
+use lib.ListN.{getD}
+use Rattle.word.specs.Lists.{tabulate}
+use Rattle.printer.specs.declared.Printer.{Printer}
+use Rattle.printer.specs.Tick.{anyBusy}
+use Rattle.state.specs.declared.machine.Board.{Board}
+use Rattle.state.specs.declared.machine.Settings.{Settings}
+use Rattle.held.specs.declared.Held.{Held}
+
+abbrev pub printerIn : List ℕ → ℕ → Printer
+printerIn words n =
+    record {
+      status = getD words (5 * n) 0;
+      command = getD words (5 * n + 1) 0;
+      data0 = getD words (5 * n + 2) 0;
+      left = getD words (5 * n + 3) 0;
+      count = getD words (5 * n + 4) 0;
+    }
+
+unfoldable pub printersIn : List ℕ → List Printer
+printersIn words = tabulate 8 (printerIn words)
+
+-- the board, of the parts that a run holds
+abbrev pub boardOf : Held → Settings → List ℕ → Board
+boardOf h settings words =
+    record { clock = h .clock; settings = settings; line = record { printers = printersIn words; pending = h .pending } }
+
+-- `busy` says whether a printer works
+abbrev pub Told : Held → List ℕ → Type 0
+Told h words = h .busy ≡ anyBusy (printersIn words)

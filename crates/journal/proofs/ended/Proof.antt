@@ -1,0 +1,97 @@
+-- `journal::ended` meets its contract: with no slots nothing moves, else the three parts of the ring by `ended-as`.
+use native.Mathlib.Omega.{arith}
+use Prim.Native.Nat.{ℕ, _+_, _*_}
+use mathlib.Core.Path.{sym, ap, _∙_}
+use mathlib.Core.List.{List}
+use lib.Seq.{sets}
+use Rattle.word.specs.Lists.{flat}
+use Rattle.word.specs.Little.{toBytes}
+use Rattle.ring.proofs.Slots.{next-below}
+use Rattle.journal.specs.Journal.{slotsOf}
+use Rattle.journal.proofs.TwoParts.{ended-none, ended-as}
+use borrow.Author.Needs.{needs}
+use Rattle.journal.proofs.ended.Statement.{statement}
+use Rattle.journal.proofs.ended.Tie as tie
+
+cast-next : tie.Need-cast-next
+cast-next c = search needs
+
+returns : tie.Need-returns
+returns c =
+    let start = c .before .before .before in
+    sym (ended-none (start .args .mark) (start .args .journal .now) (start .args .s) (c .if1 .taken))
+
+saved-words-requires : tie.Need-saved-words-requires
+saved-words-requires c κs = search needs
+
+slice-aggregate-put-words : tie.Need-slice-aggregate-put-words
+slice-aggregate-put-words c = search needs
+
+mul-put-words : tie.Need-mul-put-words
+mul-put-words c = search needs
+
+add-put-words : tie.Need-add-put-words
+add-put-words c = search needs
+
+put-words-requires : tie.Need-put-words-requires
+put-words-requires c κs = search needs
+
+next-slot-requires : tie.Need-next-slot-requires
+next-slot-requires c κs = search needs
+
+cast-after : tie.Need-cast-after
+cast-after c =
+    let start = c .before .before .before .before .before .before .before .before .before .before in
+    omega (arith, start .pre .few, start .pre .sound .place, next-below (slotsOf (start .args .journal .now)) (start .args .mark .«next_slot») (omega (arith, start .pre .sound .place)), c .next-slot .ensures)
+
+cast-if2 : tie.Need-cast-if2
+cast-if2 c = search needs
+
+add-t18 : tie.Need-add-t18
+add-t18 c = search needs
+
+same-length : tie.Need-same-length
+same-length c = search needs
+
+returns-2 : tie.Need-returns-2
+returns-2 c =
+    let put = c .before .before .before .before in
+    let worded = put .before .before .before in
+    let start = worded .before .before .before .before in
+    let at : ℕ = 256 * start .args .mark .«next_slot» + 68 in
+    ended-as (start .args .mark) (start .args .journal .now) (start .args .s) _ (omega arith)
+    (put .put-words .ensures ∙ ap (λ (ws : List ℕ). sets (start .args .journal .now) at (flat (toBytes 4) ws)) (worded .saved-words .ensures))
+    (omega (arith, start .pre .sound .most)) (c .before .next-slot .ensures)
+
+same-length-2 : tie.Need-same-length-2
+same-length-2 c = search needs
+
+returns-3 : tie.Need-returns-3
+returns-3 c =
+    let put = c .before .before .before .before in
+    let worded = put .before .before .before in
+    let start = worded .before .before .before .before in
+    let at : ℕ = 256 * start .args .mark .«next_slot» + 68 in
+    ended-as (start .args .mark) (start .args .journal .now) (start .args .s) _ (omega arith)
+    (put .put-words .ensures ∙ ap (λ (ws : List ℕ). sets (start .args .journal .now) at (flat (toBytes 4) ws)) (worded .saved-words .ensures))
+    (omega (arith, start .pre .sound .most)) (c .before .next-slot .ensures)
+
+pub ended-spec : {M : Type 1} → statement M
+ended-spec =
+    tie.close
+    (tie.spec
+    cast-next
+    returns
+    saved-words-requires
+    slice-aggregate-put-words
+    mul-put-words
+    add-put-words
+    put-words-requires
+    next-slot-requires
+    cast-after
+    cast-if2
+    add-t18
+    same-length
+    returns-2
+    same-length-2
+    returns-3)

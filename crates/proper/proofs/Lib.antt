@@ -1,0 +1,12 @@
+pub mod Words
+pub mod Operated
+pub mod Merged
+pub mod Coded
+pub mod Registers
+pub mod Causes
+pub mod Overlaid
+pub mod Entered
+pub mod Controls
+pub mod Means
+pub mod Settled
+pub mod Decided
