@@ -1,0 +1,151 @@
+//! The programs that are timed: endless loops in RAM, without an exception.
+
+use crate::station::Station;
+use reference::{decode, encode, reset, Entry, Machine, Status, IMAGE_BYTES};
+
+const RAM: u32 = 0x2000_0000;
+const FRAME: u32 = 0x1000;
+const FRAMES: u32 = 32;
+
+/// The pages of the translated loop; entry n maps page n.
+const PAGES: u32 = 0xC000_0000;
+const CODE_PAGE: u32 = 7;
+
+const PRINTERS: u32 = 0x1000_01D0;
+const PRINTCHR: u32 = 2;
+
+/// Short enough that printers finish all the time, and so long beside the
+/// loop's 19 steps that each is busy for 98 of 100 steps.
+const PRINTER_DELAY: u64 = 1000;
+
+pub struct Loop {
+    pub name: &'static str,
+    code: &'static [u32],
+    set_up: fn(&mut Machine),
+}
+
+pub const LOOPS: [Loop; 4] = [
+    Loop { name: "arithmetic", code: &ARITHMETIC, set_up: |_| {} },
+    Loop { name: "memory", code: &MEMORY, set_up: data_in_ram },
+    Loop { name: "translation on", code: &TRANSLATED, set_up: data_in_pages },
+    Loop { name: "eight printers", code: &PRINTING, set_up: printers_at_hand },
+];
+
+impl Loop {
+    /// The machine before the loop's first step.
+    pub fn station(&self, slots: usize) -> Station {
+        let mut image = vec![0; IMAGE_BYTES];
+        reset(&mut image, 1, PRINTER_DELAY, 0xFF);
+        let mut machine = decode(&image);
+        machine.status = Status(0);
+        machine.pc = RAM;
+        (self.set_up)(&mut machine);
+        machine.next_pc = machine.pc + 4;
+        encode(&machine, &mut image);
+        // Not 0, so that no page of a buffer is met for the first time in a
+        // timed run.
+        let mut ram = vec![1; (FRAMES * FRAME) as usize];
+        for (place, word) in ram.chunks_exact_mut(4).zip(self.code) {
+            place.copy_from_slice(&word.to_le_bytes());
+        }
+        Station { image, ram, paper: vec![1; 65_536], journal: vec![1; 256 * slots] }
+    }
+}
+
+fn data_in_ram(machine: &mut Machine) {
+    machine.registers[16] = RAM + FRAME;
+}
+
+/// All sixteen entries are in use. The code's page is mapped by one in the
+/// middle, and the data lie in the eight pages behind it.
+fn data_in_pages(machine: &mut Machine) {
+    machine.status = Status(0x0100_0000);
+    for (number, entry) in (0..).zip(&mut machine.tlb) {
+        let frame = (number + FRAMES - CODE_PAGE) % FRAMES;
+        *entry = Entry { high: PAGES + number * FRAME, low: (RAM + frame * FRAME) | 0x600 };
+    }
+    machine.pc = PAGES + CODE_PAGE * FRAME;
+    machine.registers[16] = machine.pc + FRAME;
+}
+
+fn printers_at_hand(machine: &mut Machine) {
+    machine.registers[16] = PRINTERS;
+    machine.registers[17] = PRINTCHR;
+}
+
+const ARITHMETIC: [u32; 15] = [
+    0x2508_0001, // addiu $8, $8, 1
+    0x0128_4821, // addu  $9, $9, $8
+    0x0128_5026, // xor   $10, $9, $8
+    0x000A_5942, // srl   $11, $10, 5
+    0x0169_602B, // sltu  $12, $11, $9
+    0x014C_6823, // subu  $13, $10, $12
+    0x01A8_0018, // mult  $13, $8
+    0x000D_71C3, // sra   $14, $13, 7
+    0x01CB_7825, // or    $15, $14, $11
+    0x0000_C012, // mflo  $24
+    0x0118_C804, // sllv  $25, $24, $8
+    0x3322_07FF, // andi  $2, $25, 0x7ff
+    0x0122_4821, // addu  $9, $9, $2
+    0x1000_FFF2, // beq   $0, $0, -14
+    0x004F_1827, // nor   $3, $2, $15
+];
+
+const MEMORY: [u32; 17] = [
+    0x0208_5821, // addu  $11, $16, $8
+    0x8D69_0000, // lw    $9, 0($11)
+    0x2508_0304, // addiu $8, $8, 0x304
+    0x0128_4821, // addu  $9, $9, $8
+    0xAD69_0004, // sw    $9, 4($11)
+    0x3108_EFFC, // andi  $8, $8, 0xeffc
+    0x916A_0009, // lbu   $10, 9($11)
+    0x856C_000E, // lh    $12, 14($11)
+    0xA16A_0008, // sb    $10, 8($11)
+    0x014C_5021, // addu  $10, $10, $12
+    0xA56A_000C, // sh    $10, 12($11)
+    0x896D_0012, // lwl   $13, 18($11)
+    0x996D_000F, // lwr   $13, 15($11)
+    0xA96D_0017, // swl   $13, 23($11)
+    0xB96D_0014, // swr   $13, 20($11)
+    0x1000_FFF0, // beq   $0, $0, -16
+    0x8D6E_0014, // lw    $14, 20($11)
+];
+
+const TRANSLATED: [u32; 13] = [
+    0x0208_5821, // addu  $11, $16, $8
+    0x8D69_0000, // lw    $9, 0($11)
+    0x2508_1010, // addiu $8, $8, 0x1010
+    0x0128_4821, // addu  $9, $9, $8
+    0xAD69_0004, // sw    $9, 4($11)
+    0x3108_7FF0, // andi  $8, $8, 0x7ff0
+    0x0208_6021, // addu  $12, $16, $8
+    0x8D8A_0008, // lw    $10, 8($12)
+    0x0149_6826, // xor   $13, $10, $9
+    0x01AA_702B, // sltu  $14, $13, $10
+    0xAD8D_000C, // sw    $13, 12($12)
+    0x1000_FFF4, // beq   $0, $0, -12
+    0x01EE_7821, // addu  $15, $15, $14
+];
+
+/// Starts each printer again and again; a busy one takes no notice.
+const PRINTING: [u32; 19] = [
+    0x2508_0001, // addiu $8, $8, 1
+    0xAE11_0004, // sw    $17, 4($16)
+    0x0128_4821, // addu  $9, $9, $8
+    0xAE11_0014, // sw    $17, 20($16)
+    0x0128_5026, // xor   $10, $9, $8
+    0xAE11_0024, // sw    $17, 36($16)
+    0x000A_5942, // srl   $11, $10, 5
+    0xAE11_0034, // sw    $17, 52($16)
+    0x0169_602B, // sltu  $12, $11, $9
+    0xAE11_0044, // sw    $17, 68($16)
+    0x014C_6823, // subu  $13, $10, $12
+    0xAE11_0054, // sw    $17, 84($16)
+    0x000D_71C3, // sra   $14, $13, 7
+    0xAE11_0064, // sw    $17, 100($16)
+    0x01CB_7825, // or    $15, $14, $11
+    0xAE11_0074, // sw    $17, 116($16)
+    0xAE08_0008, // sw    $8, 8($16)
+    0x1000_FFEE, // beq   $0, $0, -18
+    0x012F_4821, // addu  $9, $9, $15
+];

@@ -1,0 +1,10 @@
+/* RAM's first page: words that the driver and the two ROMs share. */
+#define MAILBOX_HIGH    0x2000
+#define ENTRY_STATUS    0       /* Status before the RFE that starts the program */
+#define PERIOD          4       /* steps from one tick of the timer to the next */
+#define TICKS           8       /* timer interrupts so far */
+#define PAGE_FLIP       12      /* page and frame differ in these bits */
+#define MISSES          16      /* TLB misses so far */
+#define SAVED_8         20
+#define SAVED_9         24
+#define SAVED_10        28

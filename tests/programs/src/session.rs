@@ -1,0 +1,134 @@
+//! One program, run to its end in calls of any budget, on both sides.
+
+use crate::archive;
+use crate::dice::Dice;
+use crate::mode::Mode;
+use crate::station::{Roms, Station};
+use reference::{reset, run_with_records, Machine, EXCEPTION};
+
+const INTERRUPT: u32 = 0;
+const MISS_ON_LOAD: u32 = 2;
+const MISS_ON_STORE: u32 = 3;
+const SYSTEM_CALL: u32 = 8;
+
+const WRITE: u32 = 4004;
+const EXIT: u32 = 4001;
+
+/// Far more steps than any program takes.
+const TOO_MANY: u64 = 20_000_000;
+
+/// How a program ended.
+#[derive(Clone, Copy, PartialEq, Eq, Debug)]
+pub enum End {
+    Exit(u32),
+    Exception(u32),
+}
+
+pub struct Outcome {
+    pub end: End,
+    pub written: Vec<u8>,
+    pub steps: u64,
+    pub calls: u64,
+    /// The archive's side.
+    pub station: Station,
+}
+
+struct Session<'a> {
+    roms: &'a Roms,
+    ours: Station,
+    theirs: Station,
+    steps: u64,
+    calls: u64,
+}
+
+/// An error says where the archive differs from the reference.
+pub fn run(
+    start: Station,
+    roms: &Roms,
+    mode: Mode,
+    delay: u64,
+    dice: &mut Dice,
+) -> Result<Outcome, String> {
+    let mut session = Session { roms, ours: start.clone(), theirs: start, steps: 0, calls: 0 };
+    session.reset(delay)?;
+    let mut written = Vec::new();
+    loop {
+        if session.steps > TOO_MANY {
+            return Err("did not end".to_string());
+        }
+        if !session.stopped_at_exception(dice)? {
+            continue;
+        }
+        let machine = session.ours.machine();
+        let code = machine.cause >> 2 & 31;
+        let end = match code {
+            INTERRUPT if mode != Mode::Plain => continue,
+            MISS_ON_LOAD | MISS_ON_STORE if mode == Mode::Paged => continue,
+            SYSTEM_CALL => match system_call(&machine, &session.ours, &mut written)? {
+                None => continue,
+                Some(code) => End::Exit(code),
+            },
+            _ => End::Exception(code),
+        };
+        let Session { ours, steps, calls, .. } = session;
+        return Ok(Outcome { end, written, steps, calls, station: ours });
+    }
+}
+
+/// What the host does for a call: nothing to the machine. Gives the exit code.
+fn system_call(
+    machine: &Machine,
+    station: &Station,
+    written: &mut Vec<u8>,
+) -> Result<Option<u32>, String> {
+    let [number, first, second, third] = [2, 4, 5, 6].map(|at: usize| machine.registers[at]);
+    match number {
+        EXIT => Ok(Some(first)),
+        WRITE => {
+            let bytes = station.bytes(second, third);
+            written.extend(bytes.ok_or("a write of bytes beyond RAM")?);
+            Ok(None)
+        }
+        _ => Err(format!("system call {number}")),
+    }
+}
+
+impl Session<'_> {
+    fn reset(&mut self, delay: u64) -> Result<(), String> {
+        let ours = archive::reset(&mut self.ours.image, 1, delay, 0xFF);
+        let theirs = reset(&mut self.theirs.image, 1, delay, 0xFF).packed();
+        self.compared("reset", ours, theirs)
+    }
+
+    /// One call on both sides; whether an exception stopped it.
+    fn stopped_at_exception(&mut self, dice: &mut Dice) -> Result<bool, String> {
+        let bits = dice.between(0, 19);
+        let budget = u64::from(dice.below(2 << bits)).min(1_000_000);
+        let stop = dice.pick(&[1, 2, 1 << 32, u64::MAX]);
+        let Roms { execution, bootstrap } = self.roms;
+        let Station { image, ram, paper, journal } = &mut self.ours;
+        let ours = archive::run(image, execution, bootstrap, ram, paper, journal, budget, stop);
+        let Station { image, ram, paper, journal } = &mut self.theirs;
+        let answer =
+            run_with_records(image, execution, bootstrap, ram, paper, journal, budget, stop);
+        self.compared(&format!("a run of {budget}"), ours, answer.packed())?;
+        if answer.number != 0 {
+            return Err(format!("after {} steps: refused with {}", self.steps, answer.number));
+        }
+        self.calls += 1;
+        self.steps += u64::from(answer.steps);
+        Ok(answer.reason == EXCEPTION)
+    }
+
+    fn compared(&self, call: &str, ours: u64, theirs: u64) -> Result<(), String> {
+        let wrong = if ours != theirs {
+            Some(format!("answer {ours:#x}, not {theirs:#x}"))
+        } else {
+            self.ours.differs_from(&self.theirs)
+        };
+        match wrong {
+            None => Ok(()),
+            Some(wrong) => Err(format!("after {} steps, {call}: {wrong}", self.steps)),
+        }
+    }
+}

@@ -1,0 +1,79 @@
+//! One call of run: what is lent, and what the reference makes of it.
+
+#[derive(Clone)]
+pub struct Call {
+    pub image: Vec<u8>,
+    pub execution: Vec<u8>,
+    pub bootstrap: Vec<u8>,
+    pub ram: Vec<u8>,
+    pub paper: Vec<u8>,
+    pub journal: Vec<u8>,
+    pub budget: u64,
+    pub stop: u64,
+}
+
+/// The packed answer, and every byte that a run may write.
+#[derive(PartialEq, Eq)]
+pub struct Outcome {
+    pub answer: u64,
+    pub image: Vec<u8>,
+    pub ram: Vec<u8>,
+    pub paper: Vec<u8>,
+    pub journal: Vec<u8>,
+}
+
+impl Outcome {
+    pub fn number(&self) -> u64 {
+        self.answer & 0xFF
+    }
+
+    pub fn reason(&self) -> u64 {
+        self.answer >> 8 & 0xFF
+    }
+
+    pub fn steps(&self) -> u64 {
+        self.answer >> 32
+    }
+}
+
+impl Call {
+    pub fn slots(&self) -> usize {
+        self.journal.len() / 256
+    }
+
+    /// What the reference answers and leaves, with this budget.
+    pub fn by_reference(&self, budget: u64) -> Outcome {
+        let mut outcome = Outcome {
+            answer: 0,
+            image: self.image.clone(),
+            ram: self.ram.clone(),
+            paper: self.paper.clone(),
+            journal: self.journal.clone(),
+        };
+        let answer = reference::run_with_records(
+            &mut outcome.image,
+            &self.execution,
+            &self.bootstrap,
+            &mut outcome.ram,
+            &mut outcome.paper,
+            &mut outcome.journal,
+            budget,
+            self.stop,
+        );
+        outcome.answer = answer.packed();
+        outcome
+    }
+
+    /// The same buffers after so many steps of the reference.
+    pub fn after(&self, steps: u64) -> Call {
+        let mut later = self.clone();
+        later.stop = 0;
+        let outcome = later.by_reference(steps);
+        later.image = outcome.image;
+        later.ram = outcome.ram;
+        later.paper = outcome.paper;
+        later.journal = outcome.journal;
+        later.stop = self.stop;
+        later
+    }
+}

@@ -1,0 +1,80 @@
+//! Compares run of the archive with the reference: random runs, and the
+//! refusals.
+//!
+//! `run [SEED [RUNS]]`. Exit 0: all equal and all counts met; 1: not so.
+
+#[path = "../../calls/src/breaches.rs"]
+mod breaches;
+#[allow(dead_code)]
+#[path = "../../calls/src/dice.rs"]
+mod dice;
+#[allow(dead_code)]
+#[path = "../../calls/src/fields.rs"]
+mod fields;
+#[path = "../../calls/src/guarded.rs"]
+mod guarded;
+#[allow(dead_code)]
+#[path = "../../calls/src/report.rs"]
+mod report;
+#[allow(dead_code)]
+#[path = "../../calls/src/valid.rs"]
+mod valid;
+
+mod access_corners;
+mod accesses;
+mod aims;
+mod archive;
+mod book;
+mod call;
+mod call_corners;
+mod code;
+mod control;
+mod corners;
+mod counts;
+mod difference;
+mod handlers;
+mod lengths;
+mod look;
+mod names;
+mod plan;
+mod pool;
+mod printed;
+mod printers;
+mod refusals;
+mod refused;
+mod registers;
+mod runs;
+mod scene;
+mod seen;
+mod sight;
+mod table;
+mod wild;
+mod words;
+mod wrong;
+
+use dice::Dice;
+use std::env;
+use std::process::exit;
+
+const DEFAULT_SEED: u64 = 1;
+
+fn argument(place: usize, name: &str, otherwise: u64) -> u64 {
+    match env::args().nth(place) {
+        None => otherwise,
+        Some(text) => text.parse().unwrap_or_else(|_| {
+            eprintln!("run: the {name} is a number, not {text:?}");
+            exit(2)
+        }),
+    }
+}
+
+fn main() {
+    let seed = argument(1, "seed", DEFAULT_SEED);
+    let runs = argument(2, "count of runs", counts::RUNS);
+    println!("run: seed {seed}");
+    // Each part has dice of its own, so that one can change without the rest.
+    let seen = runs::compare(seed, runs);
+    refusals::compare(seed, &mut Dice::new(seed.wrapping_add(3 << 60)));
+    counts::print(&seen);
+    println!("run: all equal");
+}
