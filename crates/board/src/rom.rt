@@ -15,7 +15,7 @@ pub enum RomAnswer {
     BadAddress,
 }
 
-fn fit(len: u64) -> bool
+pub fn fit(len: u64) -> bool
     ensures { λ r. ⌜ r ≡ fitOf len ⌝ }
 {
     if len < 4 {

@@ -4,3 +4,4 @@ pub mod Packing
 pub mod ResetTheorems
 pub mod RomTheorems
 pub mod Four
+pub mod Running

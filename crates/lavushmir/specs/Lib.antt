@@ -1,4 +1,6 @@
 pub mod Answer
+pub mod Lent
 pub mod Reset
+pub mod Run
 pub mod Rom
 pub mod Probe

@@ -2,7 +2,9 @@
 ghost use mathlib.Core.Path.{_≡_};
 ghost use Rattle.lavushmir.specs.Answer.{packedOf};
 ghost use Rattle.lavushmir.specs.Reset.{PackedResetIs};
+ghost use Rattle.lavushmir.specs.Run.{runLeaves, PackedRunIs};
 use crate::answer::packed;
+use crate::forward::run;
 use crate::reset::reset;
 
 #[no_mangle]
@@ -15,4 +17,34 @@ pub extern "C" fn lavushmir_reset(
     ensures { λ r. ⌜ PackedResetIs (now (image .entry)) «time_scale» «printer_delay» installed r (now (image .exit)) ⌝ }
 {
     packed(reset(image, time_scale, printer_delay, installed))
+}
+
+#[no_mangle]
+pub extern "C" fn lavushmir_run(
+    image: &mut [u8],
+    execution_rom: &[u8],
+    bootstrap_rom: &[u8],
+    ram: &mut [u8],
+    paper: &mut [u8],
+    journal: &mut [u8],
+    budget: u64,
+    stop_at_exceptions: u64,
+) -> u64
+    ensures { λ r. ⌜
+        PackedRunIs
+        (runLeaves (now (image .entry)) (now («execution_rom» .entry)) (now («bootstrap_rom» .entry)) (now (ram .entry)) (now (paper .entry)) (now (journal .entry)) budget
+        «stop_at_exceptions»)
+        r (now (image .exit)) (now (ram .exit)) (now (paper .exit)) (now (journal .exit))
+        ⌝ }
+{
+    packed(run(
+        image,
+        execution_rom,
+        bootstrap_rom,
+        ram,
+        paper,
+        journal,
+        budget,
+        stop_at_exceptions,
+    ))
 }

@@ -60,7 +60,7 @@ pub printed-busy : (words : List ℕ) (pending : ℕ) (paper : List ℕ) {ps : L
 printed-busy words pending paper {ps} {line} {words′} {paper′} {busy} unpacked ticked packed told =
     let s : Printing = printing ps pending paper in
     let eight : length (line .printers) ≡ 8 =
-        ap (λ (p : Printing). length (p .line .printers)) ticked ∙ length-printers s 8 ∙ ap (λ (l : List Printer). length l) unpacked ∙ held.length-printers words in
+    ap (λ (p : Printing). length (p .line .printers)) ticked ∙ length-printers s 8 ∙ ap (λ (l : List Printer). length l) unpacked ∙ held.length-printers words in
     let are : printersIn words′ ≡ line .printers = packed-are eight packed in
     record { ticked = rw (are, ← unpacked) ticked; told = rw are told }
 
@@ -111,10 +111,10 @@ pub stores-held : (settings : Settings) (offset word : ℕ) (h : Held) (words : 
 stores-held settings offset word h words {ps} {next} {words′} {busy} unpacked stored packed told =
     let line : Line = record { printers = ps; pending = h .pending } in
     let eight : length (next .line .printers) ≡ 8 =
-        ap (λ (b : Board). length (b .line .printers)) stored
-        ∙ stored-length (settings .installed) (settings .delay) (busWriteOf offset word) line
-        ∙ ap (λ (l : List Printer). length l) unpacked
-        ∙ held.length-printers words in
+    ap (λ (b : Board). length (b .line .printers)) stored
+    ∙ stored-length (settings .installed) (settings .delay) (busWriteOf offset word) line
+    ∙ ap (λ (l : List Printer). length l) unpacked
+    ∙ held.length-printers words in
     let are : printersIn words′ ≡ next .line .printers = packed-are eight packed in
     record { board-is = rw (are, stored, unpacked); told = rw are told }
 

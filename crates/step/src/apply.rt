@@ -33,13 +33,7 @@ use state::machine::Board;
 use state::machine::Core;
 use state::machine::Settings;
 
-pub fn write_back(
-    effect: Effect,
-    bus: Bus,
-    words: &[u32; 40],
-    regs: &mut [u32; 32],
-    ram: &mut [u8],
-)
+pub fn write_back(effect: Effect, bus: Bus, words: &[u32; 40], regs: &mut [u32; 32], ram: &mut [u8])
     requires { ⌜ Within (length (now ram)) 16 effect ⌝ }
     ensures { λ _. ⌜
         (now (regs .exit) ≡ regsAfter bus (printersIn (now (words .entry))) effect (now (regs .entry)))
