@@ -121,8 +121,49 @@ uint64_t lavushmir_reset(uint8_t *image, size_t image_bytes, uint64_t time_scale
                          uint64_t printer_delay, uint64_t installed);
 
 /*
- * Run and take-back follow. Their prototypes come here when the archive has
- * them; their numbers and reasons are in the lists above already.
+ * Run: some steps of the machine that the image holds.
+ *
+ * image                the state: read, and written where the run is done.
+ * execution_rom,       the two ROMs: 4 to 65,536 bytes each, a multiple of 4.
+ * bootstrap_rom        Only read.
+ * ram                  1 to 4,096 frames of 4,096 bytes: the bytes from physical
+ *                      address 0x20000000 on.
+ * paper                what the printers print on, an eighth for each: up to
+ *                      65,536 bytes, a multiple of 8. May be empty.
+ * journal              room for the records of the newest steps, 256 bytes for
+ *                      each: up to 16,777,216 bytes. May be empty: then no step
+ *                      can be taken back.
+ * budget               the most steps to run, 0 to 1,000,000.
+ * stop_at_exceptions   0: go on; any other number: stop after the first step
+ *                      that enters an exception (an interrupt is one).
+ *
+ * Answers, the first that applies:
+ *   LAVUSHMIR_BAD_RAM        the length of ram is not allowed.
+ *   LAVUSHMIR_BAD_ROM        the length of a ROM is not allowed.
+ *   LAVUSHMIR_BAD_PAPER      the length of paper is not allowed.
+ *   LAVUSHMIR_BAD_JOURNAL    the length of journal is not allowed.
+ *   LAVUSHMIR_BAD_IMAGE      image_bytes is not 501, or the image breaks a rule.
+ *   LAVUSHMIR_BAD_PARAMETER  budget is over 1,000,000.
+ *   LAVUSHMIR_DONE           with the steps that were really run, and
+ *                            LAVUSHMIR_BUDGET_SPENT or LAVUSHMIR_EXCEPTION. A
+ *                            run that ends with an exception in the last step of
+ *                            its budget, and was asked to stop there, answers
+ *                            LAVUSHMIR_EXCEPTION.
+ *
+ * Lend the same journal and paper again in the next call on the same image: the
+ * image counts the records that the journal holds.
+ */
+uint64_t lavushmir_run(uint8_t *image, size_t image_bytes,
+                       const uint8_t *execution_rom, size_t execution_rom_bytes,
+                       const uint8_t *bootstrap_rom, size_t bootstrap_rom_bytes,
+                       uint8_t *ram, size_t ram_bytes,
+                       uint8_t *paper, size_t paper_bytes,
+                       uint8_t *journal, size_t journal_bytes,
+                       uint64_t budget, uint64_t stop_at_exceptions);
+
+/*
+ * Take-back follows. Its prototype comes here when the archive has it; its
+ * numbers are in the list above already.
  */
 
 #ifdef __cplusplus

@@ -43,6 +43,8 @@ $cc -std=c99 $warnings -I "$include" -c "$scratch/header.c" -o "$scratch/header_
 $cxx -std=c++11 $warnings -I "$include" -c "$scratch/header.cpp" -o "$scratch/header_cpp.o"
 
 $cc -std=c99 $warnings -O1 -I "$include" "$here/reset.c" "$archive" -o "$scratch/reset_c"
+$cc -std=c99 $warnings -O1 -I "$include" "$here/run.c" "$archive" -o "$scratch/run_c"
 $cxx -std=c++11 $warnings -O1 -I "$include" "$here/reset.cpp" "$archive" -o "$scratch/reset_cpp"
 $runner "$scratch/reset_c"
+$runner "$scratch/run_c"
 $runner "$scratch/reset_cpp"

@@ -2,3 +2,4 @@ pub mod Effects
 pub mod Ticks
 pub mod Applied
 pub mod Held
+pub mod Devices

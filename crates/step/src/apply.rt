@@ -4,6 +4,7 @@ ghost use mathlib.Core.Path.{_≡_};
 ghost use Prim.Native.Nat.{_+_, _<_, _≤_};
 ghost use lib.ListN.{length};
 ghost use Rattle.bus.specs.Store.{busWriteOf};
+ghost use Rattle.bus.specs.Words.{busWordOf};
 ghost use Rattle.cp0.specs.Registers.{withRegister};
 ghost use Rattle.isa.specs.declared.instr.ControlRegister.the-variants.{Cause};
 ghost use Rattle.held.specs.Board.{printersIn, Told};
@@ -24,6 +25,7 @@ use cp0::registers::with_register;
 use decide::effect::Decision;
 use decide::effect::Effect;
 use held::Held;
+use held::printer_in;
 use held::repack;
 use held::unpacked;
 use isa::instr::ControlRegister;
@@ -32,6 +34,16 @@ use printer::tick::any_busy;
 use state::machine::Board;
 use state::machine::Core;
 use state::machine::Settings;
+
+// What LW reads. Of the printers only the one that the offset names is looked at, and where it stands: code that took them all would keep all forty words apart,
+// and move each of them at every step.
+fn device_word(bus: Bus, words: &[u32; 40], offset: u32) -> u32
+    ensures { λ r. ⌜ r ≡ busWordOf bus (printersIn (now (words .entry))) offset ⌝ }
+{
+    let n = (offset as usize / 0x10 + 3) % 8;
+    let named = printer_in(words, n);
+    bus::read::read(bus, [named; 8], offset)
+}
 
 pub fn write_back(effect: Effect, bus: Bus, words: &[u32; 40], regs: &mut [u32; 32], ram: &mut [u8])
     requires { ⌜ Within (length (now ram)) 16 effect ⌝ }
@@ -47,7 +59,7 @@ pub fn write_back(effect: Effect, bus: Bus, words: &[u32; 40], regs: &mut [u32; 
         }
         Effect::DeviceLoad(d, offset) => {
             let at = d as usize;
-            regs[at] = bus::read::read(bus, unpacked(words), offset);
+            regs[at] = device_word(bus, words, offset);
         }
         Effect::Ram(at, word) => memory::store_word(ram, at as usize, word),
         Effect::Nothing => {}

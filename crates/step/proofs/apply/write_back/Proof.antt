@@ -22,17 +22,14 @@ enum-known-effect-2 c = search needs
 cast-at-2 : tie.Need-cast-at-2
 cast-at-2 c = search needs
 
-unpacked-requires : tie.Need-unpacked-requires
-unpacked-requires c κs = search needs
-
-read-requires : tie.Need-read-requires
-read-requires c κs = search needs
+device-word-requires : tie.Need-device-word-requires
+device-word-requires c κs = search needs
 
 mul-regs-2 : tie.Need-mul-regs-2
 mul-regs-2 c = search needs
 
 element-write-regs-2 : tie.Need-element-write-regs-2
-element-write-regs-2 c = (rw (c .before .before .before .effect2 .given .1) at (c .before .before .before .before .before .before .pre)) .1
+element-write-regs-2 c = (rw (c .before .before .effect2 .given .1) at (c .before .before .before .before .before .pre)) .1
 
 enum-known-effect-3 : tie.Need-enum-known-effect-3
 enum-known-effect-3 c = search needs
@@ -68,7 +65,7 @@ returns : tie.Need-returns
 returns c = rw (c .before .effect .given .1) (refl, refl)
 
 returns-2 : tie.Need-returns-2
-returns-2 c = rw (c .before .before .before .effect2 .given .1, c .read .ensures, c .before .unpacked .ensures) (refl, refl)
+returns-2 c = rw (c .before .before .effect2 .given .1, c .device-word .ensures) (refl, refl)
 
 same-length : tie.Need-same-length
 same-length c = search needs
@@ -107,8 +104,7 @@ write-back-spec =
     element-write-regs
     enum-known-effect-2
     cast-at-2
-    unpacked-requires
-    read-requires
+    device-word-requires
     mul-regs-2
     element-write-regs-2
     enum-known-effect-3
