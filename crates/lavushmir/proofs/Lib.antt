@@ -5,3 +5,8 @@ pub mod ResetTheorems
 pub mod RomTheorems
 pub mod Four
 pub mod Running
+pub mod RunTheorems
+pub mod RunLaws
+pub mod RunSteps
+pub mod RunStart
+pub mod RunKeeps

@@ -1,24 +1,18 @@
 -- What the tests of run say, and what a run that passed them leaves: over plain values, so that the walk of the code hands its facts over by name.
-use Prim.Native.Nat.{ℕ, _*_, _/_, _%_, _^_, _≤_, _<_, max}
+use Prim.Native.Nat.{ℕ, _/_, _%_, _≤_, _<_}
 use mathlib.Core.Path.{_≡_, refl, sym, ap, _∙_}
-use mathlib.Core.Logic.{_⊎_}
-use mathlib.Core.Bool.{Bool, true, false, cond, not, true≢false, _&&_, _||_}
+use mathlib.Core.Bool.{Bool, true, false, cond, not, true≢false}
 use mathlib.Core.List.{List}
-use native.Mathlib.Omega.{arith}
-use borrow.Author.Tests.{eqb-true, eq-eqb, ne-eqb, leb-true, ltb-true, le-leb, lt-leb}
-use lib.Dec.{eqb, leb, ltb}
+use borrow.Author.Tests.{eq-eqb, ne-eqb, leb-true, le-leb, lt-leb}
+use lib.Dec.{eqb, leb}
 use lib.ListN.{length}
 use Rattle.word.proofs.Cond.{both}
-use Rattle.board.specs.Rom.{fitOf}
-use Rattle.printer.specs.Rules.{between}
-use Rattle.journal.specs.Journal.{ringOf, Ready}
 use Rattle.state.specs.Layout.{bytesOf, machineOf}
 use Rattle.state.specs.declared.machine.Machine.{Machine}
-use Rattle.state.specs.declared.machine.Journal.{Journal}
 use Rattle.rules.specs.Rules.{headerKeeps, journalKeeps, stateKeeps, machineKeeps, keepsRules, goodImage}
-use Rattle.decide.specs.Lent.{Words, Whole, lentOf}
 use Rattle.run.specs.Run.{Fits, RunIs, reasonOf}
 use Rattle.run.specs.declared.Outcome.{Outcome}
+use Rattle.lavushmir.proofs.RunStart.{lent-whole, ring-sound}
 use Rattle.lavushmir.specs.Lent.{ramFits, romsFit, paperFits, journalFits, lentTest}
 use Rattle.lavushmir.specs.Run.{imageTest, leftOf, reasonNamed, doneRun}
 use Rattle.lavushmir.specs.declared.answer.Reason.{Reason}
@@ -54,58 +48,6 @@ allowed execution bootstrap ram paper journal e =
     go true false c d e = absurd (true≢false (sym e))
     go false b c d e = absurd (true≢false (sym e))
 
-rom-words : (bytes : List ℕ) → fitOf (length bytes) ≡ true → Words bytes
-rom-words bytes e =
-    let h₁ = both (leb 4 (length bytes)) (leb (length bytes) 65536 && eqb (length bytes % 4) 0) e in
-    let h₂ = both (leb (length bytes) 65536) (eqb (length bytes % 4) 0) (h₁ .1) in
-    let most = leb-true (length bytes) 65536 (h₂ .0) in
-    record { whole = eqb-true (length bytes % 4) 0 (h₂ .1); few = omega (arith, most) }
-
-ram-words : (bytes : List ℕ) → ramFits (length bytes) ≡ true → Words bytes
-ram-words bytes e =
-    let n = length bytes in
-    let h₁ = both (eqb (n % 4096) 0) (between 1 4096 (n / 4096)) e in
-    let h₂ = both (leb 1 (n / 4096)) (leb (n / 4096) 4096) (h₁ .1) in
-    let whole = eqb-true (n % 4096) 0 (h₁ .0) in
-    let most = leb-true (n / 4096) 4096 (h₂ .1) in
-    record { whole = omega (arith, whole); few = omega (arith, whole, most) }
-
-pub whole-lent : {execution bootstrap ram : List ℕ} {paper journal : ℕ} → Allowed (length execution) (length bootstrap) (length ram) paper journal → Whole (lentOf execution bootstrap ram)
-whole-lent {execution} {bootstrap} {ram} a =
-    let h = both (fitOf (length execution)) (fitOf (length bootstrap)) (a .roms-fit) in
-    record {
-      execution = rom-words execution (h .0);
-      bootstrap = rom-words bootstrap (h .1);
-      ram = ram-words ram (a .ram-fits);
-    }
-
--- ---- the journal's two words
-
-slot-place : (next slots : ℕ) → (ltb next slots || eqb slots 0 && eqb next 0) ≡ true → next < max slots 1
-slot-place next slots e = go (ltb next slots) refl
-  where
-    go : (b : Bool) → ltb next slots ≡ b → next < max slots 1
-    go true l = let less = ltb-true next slots l in omega (arith, less)
-    go false l =
-        let h = both (eqb slots 0) (eqb next 0) (rw l at e) in
-        let none = eqb-true next 0 (h .1) in
-        omega (arith, none)
-
-pub journal-ready : (mark : Journal) (journal : List ℕ) → journalFits (length journal) ≡ true → journalKeeps mark (length journal / 256) ≡ true → Ready journal mark
-journal-ready mark journal fits keeps =
-    let n = length journal in
-    let f = both (leb n 16777216) (eqb (n % 256) 0) fits in
-    let h = both (leb (mark .«on_hand») (n / 256)) (ltb (mark .«next_slot») (n / 256) || eqb (n / 256) 0 && eqb (mark .«next_slot») 0) keeps in
-    record {
-      few = leb-true n 16777216 (f .0);
-      sound =
-          record {
-            room = omega arith;
-            most = leb-true (mark .«on_hand») (n / 256) (h .0);
-            place = slot-place (mark .«next_slot») (n / 256) (h .1);
-          };
-    }
-
 -- what the tests leave is what the run asks for
 pub fits-run : (execution bootstrap ram paper journal image : List ℕ) {m : Machine} →
     lentTest (length execution) (length bootstrap) (length ram) (length paper) (length journal) ≡ Passed →
@@ -114,12 +56,13 @@ unfolding keepsRules machineKeeps
 fits-run execution bootstrap ram paper journal image passed keeps is =
     let a = allowed (length execution) (length bootstrap) (length ram) (length paper) (length journal) passed in
     let p = both (leb (length paper) 65536) (eqb (length paper % 8) 0) (a .paper-fits) in
+    let f = both (leb (length journal) 16777216) (eqb (length journal % 256) 0) (a .journal-fits) in
     let k = both (headerKeeps image) (machineKeeps (machineOf image) (length paper) (length journal)) keeps in
     let j = both (stateKeeps (machineOf image) (length paper)) (journalKeeps (machineOf image .journal) (length journal / 256)) (k .1) in
     record {
-      whole = whole-lent a;
+      whole = lent-whole execution bootstrap ram (a .ram-fits) (a .roms-fit);
       short = leb-true (length paper) 65536 (p .0);
-      ready = rw is (journal-ready (machineOf image .journal) journal (a .journal-fits) (j .1));
+      ready = rw is (record { few = leb-true (length journal) 16777216 (f .0); sound = ring-sound journal (machineOf image .journal) (j .1) });
     }
 
 -- ---- the image and the budget

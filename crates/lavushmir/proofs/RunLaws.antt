@@ -1,0 +1,106 @@
+-- Laws of a run, for any machine that never halts by itself: how many steps it took, where it stands then, and why it ended.
+use Prim.Native.Nat.{ℕ, zero, suc, _+_, _-_, _≤_, _<_}
+use native.Mathlib.Omega.{arith}
+use mathlib.Core.Path.{_≡_, refl, sym, ap, subst, _∙_}
+use mathlib.Core.Bool.{Bool, true, false, cond, _&&_, false≢true}
+use mathlib.Core.Logic.{_⊎_, inl, inr}
+use Rattle.word.proofs.Cond.{both}
+use Rattle.ring.specs.Machine.{Forward, iterate}
+use Rattle.ring.specs.Run.{Config, Ran, advance, ended, after, run, spent, excepted, halted}
+use Rattle.ring.proofs.Run.{run-none, run-stops, run-goes}
+
+-- what each step with its record keeps, a run keeps
+pub run-keeps : (F : Forward) (n : ℕ) (P : Config F → Type 0) → ((c : Config F) → P c → P (advance F n c)) → (b : ℕ) (stop : Bool) (c : Config F) → P c →
+    P (run F n b stop c .config)
+unfolding run
+run-keeps F n P on zero stop c h = h
+run-keeps F n P on (suc b) stop c h =
+    go (F .halts (c .state)) (stop && F .stops (c .state)) (run-keeps F n P on b stop (advance F n c) (on c h))
+  where
+    go : (t u : Bool) → P (run F n b stop (advance F n c) .config) →
+        P (cond t (ended c 0 halted) (cond u (ended (advance F n c) 1 excepted) (after 1 (run F n b stop (advance F n c)))) .config)
+    go true u later = h
+    go false true later = on c h
+    go false false later = later
+
+-- first one step and then k is k and then one
+pub iterate-on : (F : Forward) (k : ℕ) (s : F .State) → iterate F k (F .step s) ≡ iterate F (suc k) s
+iterate-on F zero s = refl
+iterate-on F (suc k) s = ap (F .step) (iterate-on F k s)
+
+-- Of a run with a budget of b from s. `state`: it stands where iterating the step as often as it says that it took steps leads. A run that has spent its
+-- budget took all of it. One that an exception ended was asked to stop there, and its last step is one that enters an exception. A step that it was asked
+-- to stop after is its last.
+pub record Steps (F : Forward) (b : ℕ) (stop : Bool) (s : F .State) (r : Ran F) : Type 0 where
+  pub few : r .taken ≤ b
+  pub state : r .config .state ≡ iterate F (r .taken) s
+  pub why : (r .reason ≡ spent) ⊎ (r .reason ≡ excepted)
+  pub all : r .reason ≡ spent → r .taken ≡ b
+  pub last : r .reason ≡ excepted → (stop ≡ true) × ((0 < r .taken) × (F .stops (iterate F (r .taken - 1) s) ≡ true))
+  pub first : (i : ℕ) → i < r .taken → (stop && F .stops (iterate F i s)) ≡ true → (suc i ≡ r .taken) × (r .reason ≡ excepted)
+
+module _ (F : Forward) (n : ℕ) where
+  steps-none : (stop : Bool) (c : Config F) → Steps F 0 stop (c .state) (ended c 0 spent)
+  steps-none stop c =
+      record {
+        few = omega arith;
+        state = refl;
+        why = inl refl;
+        all = λ e. refl;
+        last = λ e. absurd (omega arith);
+        first = λ i l e. absurd (omega arith);
+      }
+
+  module _ (b : ℕ) (stop : Bool) (c : Config F) where
+    steps-one : (stop && F .stops (c .state)) ≡ true → Steps F (suc b) stop (c .state) (ended (advance F n c) 1 excepted)
+    unfolding advance
+    steps-one e =
+        let h = both stop (F .stops (c .state)) e in
+        record {
+          few = omega arith;
+          state = refl;
+          why = inr refl;
+          all = λ e. absurd (omega arith);
+          last = λ e. (h .0, (omega arith, h .1));
+          first = λ i l e. (omega arith, refl);
+        }
+
+    module _ (r : Ran F) (goes : (stop && F .stops (c .state)) ≡ false) (s : Steps F b stop (F .step (c .state)) r) where
+      -- the step i + 1 from here is the step i from the next state
+      stops-on : (i : ℕ) → F .stops (iterate F i (F .step (c .state))) ≡ F .stops (iterate F (suc i) (c .state))
+      stops-on i = ap (F .stops) (iterate-on F i (c .state))
+
+      last-on : r .reason ≡ excepted → (stop ≡ true) × ((0 < 1 + r .taken) × (F .stops (iterate F (1 + r .taken - 1) (c .state)) ≡ true))
+      last-on e =
+          let l = s .last e in
+          let k : suc (r .taken - 1) ≡ 1 + r .taken - 1 = omega (arith, l .1 .0) in
+          (l .0, (omega arith, subst (λ (j : ℕ). F .stops (iterate F j (c .state)) ≡ true) k (sym (stops-on (r .taken - 1)) ∙ l .1 .1)))
+
+      first-on : (i : ℕ) → i < 1 + r .taken → (stop && F .stops (iterate F i (c .state))) ≡ true → (suc i ≡ 1 + r .taken) × (r .reason ≡ excepted)
+      first-on zero l e = absurd (false≢true (sym goes ∙ e))
+      first-on (suc i) l e =
+          let h = s .first i (omega arith) (ap (λ (t : Bool). stop && t) (stops-on i) ∙ e) in
+          (omega (arith, h .0), h .1)
+
+      steps-on : Steps F (suc b) stop (c .state) (after 1 r)
+      steps-on =
+          let more : suc (r .taken) ≡ 1 + r .taken = omega arith in
+          record {
+            few = omega (arith, s .few);
+            state = s .state ∙ iterate-on F (r .taken) (c .state) ∙ ap (λ (k : ℕ). iterate F k (c .state)) more;
+            why = s .why;
+            all = λ e. let h = s .all e in omega (arith, h);
+            last = last-on;
+            first = first-on;
+          }
+
+  module _ (never : (s : F .State) → F .halts s ≡ false) where
+    pub run-steps : (b : ℕ) (stop : Bool) (c : Config F) → Steps F b stop (c .state) (run F n b stop c)
+    unfolding advance
+    run-steps zero stop c = rw (run-none F n stop c) (steps-none stop c)
+    run-steps (suc b) stop c = go (stop && F .stops (c .state)) refl (run-steps b stop (advance F n c))
+      where
+        go : (u : Bool) → (stop && F .stops (c .state)) ≡ u → Steps F b stop (F .step (c .state)) (run F n b stop (advance F n c)) →
+            Steps F (suc b) stop (c .state) (run F n (suc b) stop c)
+        go true e ih = rw (run-stops F n b stop c (never (c .state)) e) (steps-one b stop c e)
+        go false e ih = rw (run-goes F n b stop c (never (c .state)) e) (steps-on b stop c (run F n b stop (advance F n c)) e ih)
