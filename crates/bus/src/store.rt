@@ -1,18 +1,14 @@
-// What a store of a word in the device area means, and what it does to the timer, the printers and the interrupt lines.
+// What a store of a word in the device area means, and what it does to the interrupt lines.
 ghost use mathlib.Core.Path.{_≡_};
 ghost use Rattle.bus.specs.Store.{registerWrite, busWriteOf};
-ghost use Rattle.bus.specs.Stored.{InLine, lineStored, clockStored, timerLine, causeStored};
+ghost use Rattle.bus.specs.Stored.{timerLine, causeStored};
 use crate::offset::DEVICES;
 use crate::offset::PRINTERS;
 use crate::offset::field;
 use crate::offset::line;
 use crate::offset::number;
-use clock::Clock;
 use cp0::interrupt::with_line;
-use printer::Line;
 use printer::cause::shown;
-use printer::command::command;
-use printer::command::data;
 
 pub enum Store {
     Nothing,
@@ -46,33 +42,6 @@ pub fn write(offset: u32, word: u32) -> Store
         return Store::Nothing;
     }
     register_write(number(offset), field(offset), word)
-}
-
-pub fn line_stored(s: Store, line: Line, installed: u32, delay: u32) -> Line
-    requires { ⌜ InLine s ⌝ }
-    ensures { λ r. ⌜ r ≡ lineStored installed delay s line ⌝ }
-{
-    match s {
-        Store::Command(n, word) => command(line, installed, delay, n, word),
-        Store::Data(n, word) => data(line, installed, n, word),
-        Store::Nothing => line,
-        Store::Timer(_) => line,
-    }
-}
-
-pub fn clock_stored(s: Store, clock: Clock) -> Clock
-    ensures { λ r. ⌜ r ≡ clockStored s clock ⌝ }
-{
-    match s {
-        Store::Timer(word) => Clock {
-            high: clock.high,
-            low: clock.low,
-            timer: word,
-        },
-        Store::Command(_, _) => clock,
-        Store::Data(_, _) => clock,
-        Store::Nothing => clock,
-    }
 }
 
 fn timer_line(s: Store, cause: u32) -> u32

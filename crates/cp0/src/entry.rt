@@ -6,12 +6,13 @@ use crate::status::Status;
 use word::map::has_bit;
 use word::mask::overlaid;
 
-// What an exception brings: `miss` where no entry of the table matched, the coprocessor for code 11, the address for codes 1 to 5.
+// What an exception brings: the coprocessor for code 11, the address for codes 1 to 5, `miss` where no entry of the table matched. The bool comes last, so
+// that no word of an enum that holds an exception shares its place with two parts.
 pub struct Exception {
     pub code: u32,
-    pub miss: bool,
     pub coprocessor: u32,
     pub address: u32,
+    pub miss: bool,
 }
 
 const COPROCESSOR_UNUSABLE: u32 = 11;

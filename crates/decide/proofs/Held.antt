@@ -1,10 +1,11 @@
 -- Where an access lands there is a whole word around it: what is lent are whole words, and the device area is reached by aligned words alone.
 use Prim.{tt}
 use Prim.Native.Nat.{ℕ, _+_, _*_, _/_, _%_, _≤_, _<_}
-use mathlib.Core.Path.{_≡_, refl}
+use mathlib.Core.Path.{_≡_, refl, sym, ap, subst, _∙_}
 use mathlib.Core.List.{List}
 use native.Mathlib.Omega.{arith}
 use lib.ListN.{length}
+use Rattle.board.specs.declared.places.Sizes.{Sizes}
 use Rattle.board.specs.declared.places.Place.{Place}
 use Rattle.board.specs.declared.places.Place.the-variants.{Ram, Execution, Bootstrap, Device}
 use Rattle.cp0.specs.Privilege.{modeOf}
@@ -42,9 +43,15 @@ module _ (lent : Lent) (whole : Whole lent) where
 
     held : (r : Reached) → answer ≡ r → Held lent r
     held (Lands place) e = room place e
-    held (Exception code miss) e = tt
+    held (Exception miss code) e = tt
 
   pub reached-held : (kind : Kind) (width : Width) (cp0 : Cp0) (t : List Row) (va : ℕ) → Held lent (reachedOf kind width cp0 t (sizesOf lent) va)
   unfolding reachedOf
   reached-held kind width cp0 t va =
       held (modeOf (cp0 .status)) (record { kind = kind; width = width }) va t (cp0 .«entry_hi») _ refl
+
+  -- as a caller has it, part by part
+  pub reached-room : (kind : Kind) (width : Width) (cp0 : Cp0) (t : List Row) (va : ℕ) {sizes : Sizes} {answer : Reached} {place : Place} →
+      sizes ≡ sizesOf lent → answer ≡ reachedOf kind width cp0 t sizes va → answer ≡ Lands place → Room lent place
+  reached-room kind width cp0 t va s e lands =
+      subst (Held lent) (ap (λ (z : Sizes). reachedOf kind width cp0 t z va) (sym s) ∙ sym e ∙ lands) (reached-held kind width cp0 t va)

@@ -61,9 +61,9 @@ module _ (lent : Lent) (rows : ℕ) where
     settle-within (intent.Write d v next) small = to-register-within d _ (λ above. (above, small))
     settle-within (intent.HiLo hi lo) asks = tt
     settle-within (intent.Load op d va (Lands place)) asks = loads-within op d _ _ place (asks .0) (asks .1)
-    settle-within (intent.Load op d va (Exception code miss)) asks = tt
+    settle-within (intent.Load op d va (Exception miss code)) asks = tt
     settle-within (intent.Store op x va (Lands place)) asks = stores-within op x _ place asks
-    settle-within (intent.Store op x va (Exception code miss)) asks = tt
+    settle-within (intent.Store op x va (Exception miss code)) asks = tt
     settle-within (intent.SetControl r word) asks = tt
     settle-within (intent.SetEntry row) asks = tt
     settle-within (intent.SetRow i row) asks = asks
@@ -80,7 +80,7 @@ module _ (lent : Lent) (whole : Whole lent) (t : List Row) (rows : 0 < length t)
 
   fetched-within : (answer : Reached) → In (fetchedOf core regs t lent answer)
   fetched-within (Lands place) = execute-within (wordIn lent place)
-  fetched-within (Exception code miss) = tt
+  fetched-within (Exception miss code) = tt
 
   pub decide-within : In (decideOf core regs t lent)
   unfolding decideOf

@@ -4,3 +4,5 @@ pub mod Named
 pub mod Asks
 pub mod Laws
 pub mod Parts
+pub mod Plain
+pub mod Fetches

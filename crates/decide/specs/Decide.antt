@@ -25,7 +25,7 @@ module _ (core : Core) (regs : List ℕ) (t : List Row) (lent : Lent) where
 
   abbrev pub fetchedOf : Reached → Decision
   fetchedOf (Lands place) = executeOf (wordIn lent place)
-  fetchedOf (Exception code miss) = refusedOf core code miss (core .pc)
+  fetchedOf (Exception miss code) = refusedOf core code miss (core .pc)
 
   unfoldable pub decideOf : Decision
   decideOf =

@@ -8,6 +8,7 @@ pub mod Access
 pub mod Intend
 pub mod Lent
 pub mod Part
+pub mod Fetch
 pub mod Settle
 pub mod Decide
 pub mod Range

@@ -1,11 +1,10 @@
 -- What stays in range: an answer, an intent, an effect.
 use Prim.Native.Nat.{ℕ, _+_, _%_, _≤_, _<_}
 use mathlib.Core.Path.{_≡_}
-use lib.ListN.{length}
 use Rattle.board.specs.Places.{deviceSize}
 use Rattle.reach.specs.declared.Reached.{Reached}
 use Rattle.reach.specs.declared.Reached.the-variants as reached
-use Rattle.decide.specs.Lent.{Lent, Room, Whole}
+use Rattle.decide.specs.Lent.{Lent, Room}
 use Rattle.decide.specs.declared.intent.Intent.{Intent}
 use Rattle.decide.specs.declared.intent.Intent.the-variants as intent
 use Rattle.decide.specs.declared.effect.Effect.{Effect}
@@ -13,12 +12,7 @@ use Rattle.decide.specs.declared.effect.Effect.the-variants.{Nothing, Re
 
 abbrev pub Held : Lent → Reached → Type 0
 Held lent (reached.Lands place) = Room lent place
-Held lent (reached.Exception code miss) = Unit {0}
-
--- a fetch has its answer, from what is lent in whole words
-pub record Ready (lent : Lent) (answer : Reached) : Type 0 where
-  pub whole : Whole lent
-  pub held : Held lent answer
+Held lent (reached.Exception miss code) = Unit {0}
 
 -- rows is the size of the translation table
 abbrev pub Asks : Lent → ℕ → Intent → Type 0

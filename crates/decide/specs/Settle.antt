@@ -36,11 +36,11 @@ raisedOf core e =
 
 -- an access that does not land
 abbrev pub refusedOf : Core → ℕ → Bool → ℕ → Decision
-refusedOf core code miss address = raisedOf core (record { code = code; miss = miss; coprocessor = 0; address = address })
+refusedOf core code miss address = raisedOf core (record { code = code; coprocessor = 0; address = address; miss = miss })
 
 -- an exception that has no address
 abbrev pub trappedOf : Core → ℕ → ℕ → Decision
-trappedOf core code coprocessor = raisedOf core (record { code = code; miss = false; coprocessor = coprocessor; address = 0 })
+trappedOf core code coprocessor = raisedOf core (record { code = code; coprocessor = coprocessor; address = 0; miss = false })
 
 -- register 0 is never written
 abbrev pub toRegister : ℕ → Effect → Effect
@@ -67,11 +67,11 @@ writtenOf core d v next = record { pc = core .«next_pc»; «next_pc» = next; e
 
 abbrev pub loadedOf : Core → Lent → LoadOp → ℕ → ℕ → ℕ → Reached → Decision
 loadedOf core lent op d old va (reached.Lands place) = onOf core (loadsOf op d old (wordIn lent place) place)
-loadedOf core lent op d old va (reached.Exception code miss) = refusedOf core code miss va
+loadedOf core lent op d old va (reached.Exception miss code) = refusedOf core code miss va
 
 abbrev pub storedOf : Core → Lent → StoreOp → ℕ → ℕ → Reached → Decision
 storedOf core lent op x va (reached.Lands place) = onOf core (storesOf op x (wordIn lent place) place)
-storedOf core lent op x va (reached.Exception code miss) = refusedOf core code miss va
+storedOf core lent op x va (reached.Exception miss code) = refusedOf core code miss va
 
 module _ (core : Core) (regs : List ℕ) (lent : Lent) where
   unfoldable pub settleOf : Intent → Decision

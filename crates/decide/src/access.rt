@@ -1,10 +1,13 @@
-// Loads and stores: the virtual address, and where it lands.
+// Loads and stores: the virtual address, and where it lands. Each tries the plain access first, on its own, so that what is common goes straight through.
 ghost use mathlib.Core.Path.{_≡_};
+ghost use Rattle.tlb.specs.Words.{rowsIn};
 ghost use Rattle.decide.specs.Operand.{regOf};
 ghost use Rattle.decide.specs.Access.{loadWidth, storeWidth, reachedOf, loadOf, storeOf};
 use crate::intent::Intent;
 use crate::operand::reg;
 use alu::sum::addiu;
+use board::places::Place;
+use board::places::RAM;
 use board::places::Sizes;
 use cp0::privilege::mode_of;
 use cp0::registers::Cp0;
@@ -14,7 +17,7 @@ use reach::Reached;
 use reach::access::Access;
 use reach::access::Kind;
 use reach::access::Width;
-use tlb::Row;
+use reach::plain::plain;
 
 fn load_width(op: LoadOp) -> Width
     ensures { λ r. ⌜ r ≡ loadWidth op ⌝ }
@@ -42,11 +45,18 @@ fn store_width(op: StoreOp) -> Width
     }
 }
 
-pub fn reached(kind: Kind, width: Width, cp0: Cp0, t: [Row; 16], sizes: Sizes, va: u32) -> Reached
-    ensures { λ r. ⌜ r ≡ reachedOf kind width cp0 t sizes va ⌝ }
+pub fn reached(
+    kind: Kind,
+    width: Width,
+    cp0: Cp0,
+    rows: &[u32; 32],
+    sizes: Sizes,
+    va: u32,
+) -> Reached
+    ensures { λ r. ⌜ r ≡ reachedOf kind width cp0 (rowsIn (now (rows .entry))) sizes va ⌝ }
 {
     let access = Access { kind, width };
-    reach::reach(mode_of(cp0.status), access, sizes, va, t, cp0.entry_hi)
+    reach::reach(mode_of(cp0.status), access, sizes, va, rows, cp0.entry_hi)
 }
 
 pub fn load(
@@ -56,13 +66,17 @@ pub fn load(
     offset: u32,
     cp0: Cp0,
     regs: &[u32; 32],
-    t: [Row; 16],
+    rows: &[u32; 32],
     sizes: Sizes,
 ) -> Intent
-    ensures { λ r. ⌜ r ≡ loadOf op rt (regOf (now (regs .entry)) base) offset cp0 t sizes ⌝ }
+    ensures { λ r. ⌜ r ≡ loadOf op rt (regOf (now (regs .entry)) base) offset cp0 (rowsIn (now (rows .entry))) sizes ⌝ }
 {
     let va = addiu(reg(regs, base), offset);
-    let answer = reached(Kind::Load, load_width(op), cp0, t, sizes, va);
+    let width = load_width(op);
+    if plain(cp0.status, width, sizes.ram, va) {
+        return Intent::Load(op, rt, va, Reached::Lands(Place::Ram(va - RAM)));
+    }
+    let answer = reached(Kind::Load, width, cp0, rows, sizes, va);
     Intent::Load(op, rt, va, answer)
 }
 
@@ -73,12 +87,16 @@ pub fn store(
     offset: u32,
     cp0: Cp0,
     regs: &[u32; 32],
-    t: [Row; 16],
+    rows: &[u32; 32],
     sizes: Sizes,
 ) -> Intent
-    ensures { λ r. ⌜ r ≡ storeOf op (regOf (now (regs .entry)) rt) (regOf (now (regs .entry)) base) offset cp0 t sizes ⌝ }
+    ensures { λ r. ⌜ r ≡ storeOf op (regOf (now (regs .entry)) rt) (regOf (now (regs .entry)) base) offset cp0 (rowsIn (now (rows .entry))) sizes ⌝ }
 {
     let va = addiu(reg(regs, base), offset);
-    let answer = reached(Kind::Store, store_width(op), cp0, t, sizes, va);
+    let width = store_width(op);
+    if plain(cp0.status, width, sizes.ram, va) {
+        return Intent::Store(op, reg(regs, rt), va, Reached::Lands(Place::Ram(va - RAM)));
+    }
+    let answer = reached(Kind::Store, width, cp0, rows, sizes, va);
     Intent::Store(op, reg(regs, rt), va, answer)
 }

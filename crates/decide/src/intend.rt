@@ -1,5 +1,6 @@
 // What an instruction asks for: sources are read first, so every answer is made of what they held before it.
 ghost use mathlib.Core.Path.{_≡_};
+ghost use Rattle.tlb.specs.Words.{rowsIn};
 ghost use Rattle.decide.specs.Intend.{intendOf};
 use crate::access::load;
 use crate::access::store;
@@ -18,10 +19,9 @@ use alu::logic::lui;
 use board::places::Sizes;
 use isa::instr::Instr;
 use state::machine::Core;
-use tlb::Row;
 
-pub fn intend(instr: Instr, core: Core, regs: &[u32; 32], t: [Row; 16], sizes: Sizes) -> Intent
-    ensures { λ r. ⌜ r ≡ intendOf core (now (regs .entry)) t sizes instr ⌝ }
+pub fn intend(instr: Instr, core: Core, regs: &[u32; 32], rows: &[u32; 32], sizes: Sizes) -> Intent
+    ensures { λ r. ⌜ r ≡ intendOf core (now (regs .entry)) (rowsIn (now (rows .entry))) sizes instr ⌝ }
 {
     let next = after(core.next_pc);
     let cp0 = core.cp0;
@@ -43,8 +43,8 @@ pub fn intend(instr: Instr, core: Core, regs: &[u32; 32], t: [Row; 16], sizes: S
         Instr::Sign(op, rs, offset) => branch::signs(op, rs, offset, core, regs),
         Instr::Immediate(op, rt, rs, imm) => operate::immediate(op, rt, rs, imm, regs, next),
         Instr::LoadUpper(rt, imm) => Intent::Write(rt, lui(imm), next),
-        Instr::Load(op, rt, base, offset) => load(op, rt, base, offset, cp0, regs, t, sizes),
-        Instr::Store(op, rt, base, offset) => store(op, rt, base, offset, cp0, regs, t, sizes),
-        Instr::Control(c) => control(c, cp0, regs, t, next),
+        Instr::Load(op, rt, base, offset) => load(op, rt, base, offset, cp0, regs, rows, sizes),
+        Instr::Store(op, rt, base, offset) => store(op, rt, base, offset, cp0, regs, rows, sizes),
+        Instr::Control(c) => control(c, cp0, regs, rows, next),
     }
 }

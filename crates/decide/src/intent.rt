@@ -12,6 +12,6 @@ pub enum Intent {
     Store(StoreOp, u32, u32, Reached), // the value of rt, the virtual address, its answer
     SetControl(ControlRegister, u32), // the whole word that is to be there
     SetEntry(Row), // TLBR: EntryHi and EntryLo
-    SetRow(usize, Row), // TLBWI, TLBWR
+    SetRow(u32, Row), // TLBWI, TLBWR: index below 16
     Trap(u32, u32), // the exception's code, the coprocessor
 }

@@ -4,6 +4,7 @@ mod branch; // branches and jumps
 mod codes; // the exceptions' numbers
 mod control; // COP0
 pub mod effect; // what a step changes
+mod fetch; // the word at PC
 mod hi_lo; // MULT to DIVU, and moves to and from HI and LO
 mod intend; // an instruction to its intent
 mod intent; // what an instruction asks for

@@ -61,9 +61,9 @@ pub fn refused(core: Core, code: u32, miss: bool, address: u32) -> Decision
         core,
         Exception {
             code,
-            miss,
             coprocessor: 0,
             address,
+            miss,
         },
     )
 }
@@ -75,9 +75,9 @@ pub fn trapped(core: Core, code: u32, coprocessor: u32) -> Decision
         core,
         Exception {
             code,
-            miss: false,
             coprocessor,
             address: 0,
+            miss: false,
         },
     )
 }
@@ -138,7 +138,7 @@ fn loaded(
             let word = word_in(place, execution, bootstrap, ram);
             on(core, loads(op, d, reg(regs, d), word, place))
         }
-        Reached::Exception { code, miss } => refused(core, code, miss, va),
+        Reached::Exception { miss, code } => refused(core, code, miss, va),
     }
 }
 
@@ -160,7 +160,7 @@ fn stored(
             let word = word_in(place, execution, bootstrap, ram);
             on(core, stores(op, x, word, place))
         }
-        Reached::Exception { code, miss } => refused(core, code, miss, va),
+        Reached::Exception { miss, code } => refused(core, code, miss, va),
     }
 }
 

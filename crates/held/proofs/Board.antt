@@ -39,6 +39,14 @@ module _ (ps : List Printer) (eight : length ps ≡ 8) where
       ∙ ap (λ (n : ℕ). tabulate n (λ (i : ℕ). getD ps i noPrinter)) (sym eight)
       ∙ tabulate-getD ps noPrinter
 
+-- the forty words, one after the other
+in-order : (w : List ℕ) → flat printerWords (printersIn w) ≡ tabulate 40 (λ (i : ℕ). getD w i 0)
+unfolding printersIn
+in-order w = refl
+
+pub words-held : (w : List ℕ) → length w ≡ 40 → flat printerWords (printersIn w) ≡ w
+words-held w forty = in-order w ∙ ap (λ (n : ℕ). tabulate n (λ (i : ℕ). getD w i 0)) (sym forty) ∙ tabulate-getD w 0
+
 -- five words stored one after the other
 pub store-five : (l : List ℕ) (at a b c d e : ℕ) → set (set (set (set (set l at a) (at + 1) b) (at + 2) c) (at + 3) d) (at + 4) e ≡ sets l at (a ∷ b ∷ c ∷ d ∷ e ∷ [])
 store-five l at a b c d e =

@@ -1,1 +1,4 @@
 pub mod Board
+pub mod CoreWords
+pub mod Stored
+pub mod LineHeld

@@ -2,7 +2,7 @@
 use Prim.Native.Nat.{ℕ, _+_, _*_}
 use mathlib.Core.List.{List}
 use mathlib.Core.Path.{_≡_}
-use lib.ListN.{getD}
+use lib.ListN.{length, getD}
 use Rattle.word.specs.Lists.{tabulate}
 use Rattle.printer.specs.declared.Printer.{Printer}
 use Rattle.printer.specs.Tick.{anyBusy}
@@ -28,6 +28,7 @@ abbrev pub boardOf : Held → Settings → List ℕ → Board
 boardOf h settings words =
     record { clock = h .clock; settings = settings; line = record { printers = printersIn words; pending = h .pending } }
 
--- `busy` says whether a printer works
-abbrev pub Told : Held → List ℕ → Type 0
-Told h words = h .busy ≡ anyBusy (printersIn words)
+-- `busy` says whether a printer works, and the words are those of eight printers
+pub record Told (h : Held) (words : List ℕ) : Type 0 where
+  pub busy-is : h .busy ≡ anyBusy (printersIn words)
+  pub forty : length words ≡ 40

@@ -1,1 +1,3 @@
 pub mod Board
+pub mod Core
+pub mod Line

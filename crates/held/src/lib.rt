@@ -6,6 +6,10 @@ ghost use lib.Seq.{sets};
 ghost use Rattle.word.specs.Lists.{flat};
 ghost use Rattle.state.specs.Layout.{printerWords};
 ghost use Rattle.held.specs.Board.{printerIn, printersIn};
+
+pub mod core; // the core, as its twelve words
+pub mod line; // the moves of the printers' line
+
 use clock::Clock;
 use printer::Printer;
 
@@ -47,7 +51,7 @@ pub fn unpacked(words: &[u32; 40]) -> [Printer; 8]
     printers
 }
 
-fn put_printer(p: Printer, words: &mut [u32; 40], at: usize)
+pub fn put_printer(p: Printer, words: &mut [u32; 40], at: usize)
     requires { ⌜ at + 5 ≤ 40 ⌝ }
     ensures { λ _. ⌜ now (words .exit) ≡ sets (now (words .entry)) at (printerWords p) ⌝ }
 {
@@ -67,10 +71,4 @@ pub fn packed(printers: [Printer; 8]) -> [u32; 40]
         put_printer(p, &mut words, 5 * n);
     }
     words
-}
-
-pub fn repack(printers: [Printer; 8], words: &mut [u32; 40])
-    ensures { λ _. ⌜ now (words .exit) ≡ flat printerWords printers ⌝ }
-{
-    *words = packed(printers);
 }

@@ -1,1 +1,2 @@
 pub mod TwoParts
+pub mod HeldRecord

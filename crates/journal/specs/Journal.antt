@@ -10,8 +10,12 @@ use Rattle.word.specs.Little.{toBytes}
 use Rattle.ring.specs.Slots.{Ring, Sound, nextSlot, put}
 use Rattle.record.specs.declared.Record.{Record}
 use Rattle.record.specs.declared.Saved.{Saved}
+use Rattle.record.specs.declared.Saved.the-variants.{Nothing}
 use Rattle.record.specs.Layout.{savedWords, recordBytes}
 use Rattle.state.specs.declared.machine.Journal.{Journal}
+use Rattle.printer.specs.declared.saved.SavedPaper.{SavedPaper}
+use Rattle.held.specs.Board.{printersIn}
+use Rattle.held.specs.Core.{coreIn}
 
 -- journal length / 256
 abbrev pub slotsOf : List ℕ → ℕ
@@ -24,6 +28,18 @@ ringOf mark journal = record { bytes = journal; hand = mark .«on_hand»; next =
 pub record Ready (journal : List ℕ) (mark : Journal) : Type 0 where
   pub few : length journal ≤ 16777216
   pub sound : Sound 256 (slotsOf journal) (ringOf mark journal)
+
+-- the record of what a run holds, which saves nothing: the core and the printers are held as words
+abbrev pub heldRecord : List ℕ → ℕ → ℕ → SavedPaper → List ℕ → Record
+heldRecord core timer pending paper words =
+    record {
+      core = coreIn core;
+      timer = timer;
+      pending = pending;
+      paper = paper;
+      saved = Nothing;
+      printers = printersIn words;
+    }
 
 -- A step's record is laid down in two parts, so that the old values need not be kept while the step is decided.
 

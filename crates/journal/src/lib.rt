@@ -4,9 +4,9 @@ ghost use Prim.Native.Nat.{_*_, _/_, _<_};
 ghost use lib.ListN.{length};
 ghost use Rattle.ring.specs.Slots.{put};
 ghost use Rattle.record.specs.Layout.{recordBytes};
-ghost use Rattle.journal.specs.Journal.{ringOf, Ready, begunOf, endedOf};
+ghost use Rattle.journal.specs.Journal.{ringOf, Ready, heldRecord, begunOf, endedOf};
 use memory::words::put_words;
-use record::Record;
+use printer::saved::SavedPaper;
 use record::Saved;
 use record::encode::encode;
 use record::encode::saved_words;
@@ -18,26 +18,47 @@ pub const SLOT: usize = 256;
 // Where in a slot the words of what is saved begin (docs/RECORD.md).
 const SAVED: usize = 68;
 
-fn put_record(journal: &mut [u8], slot: usize, r: Record)
+fn put_record(
+    journal: &mut [u8],
+    slot: usize,
+    core: &[u32; 12],
+    timer: u32,
+    pending: u32,
+    paper: SavedPaper,
+    words: &[u32; 40],
+)
     requires { ⌜ slot < length (now journal) / 256 ⌝ }
-    ensures { λ _. ⌜ now (journal .exit) ≡ put (now (journal .entry)) (256 * slot) (recordBytes r) ⌝ }
+    requires { ⌜ length (now core) ≡ 12 ⌝ }
+    requires { ⌜ length (now words) ≡ 40 ⌝ }
+    ensures { λ _. ⌜ now (journal .exit) ≡ put (now (journal .entry)) (256 * slot) (recordBytes (heldRecord (now (core .entry)) timer pending paper (now (words .entry)))) ⌝ }
 {
     let at = SLOT * slot;
     let end = at + SLOT;
-    encode(r, &mut journal[at..end]);
+    encode(core, timer, pending, paper, words, &mut journal[at..end]);
 }
 
-// The first part of a step's record, before the step: all of it. What it says of the saved words is written over by `ended`. With no slots nothing is written.
-pub fn begun(journal: &mut [u8], mark: Journal, r: Record)
+// The first part of a step's record, before the step: all of it, of what the run holds. What it says of the saved words is written over by `ended`. With no
+// slots nothing is written.
+pub fn begun(
+    journal: &mut [u8],
+    mark: Journal,
+    core: &[u32; 12],
+    timer: u32,
+    pending: u32,
+    paper: SavedPaper,
+    words: &[u32; 40],
+)
     requires { ⌜ Ready (now journal) mark ⌝ }
-    ensures { λ _. ⌜ now (journal .exit) ≡ begunOf mark r (now (journal .entry)) ⌝ }
+    requires { ⌜ length (now core) ≡ 12 ⌝ }
+    requires { ⌜ length (now words) ≡ 40 ⌝ }
+    ensures { λ _. ⌜ now (journal .exit) ≡ begunOf mark (heldRecord (now (core .entry)) timer pending paper (now (words .entry))) (now (journal .entry)) ⌝ }
 {
     let slots = journal.len() / SLOT;
     let next = mark.next_slot as usize;
     if slots == 0 {
         return;
     }
-    put_record(journal, next, r);
+    put_record(journal, next, core, timer, pending, paper, words);
 }
 
 // The second part, once the step is decided: what it overwrites. Only now the record counts. With no slots nothing is written and neither word moves.

@@ -24,7 +24,7 @@ use Rattle.decide.specs.Lent.{Words, Whole, lentOf}
 use Rattle.good.specs.Good.{noMark, Good}
 use Rattle.good.proofs.Belows.{each-below}
 use Rattle.good.proofs.Parts.{words, well-typed}
-use Rattle.run.specs.Run.{worldIn}
+use Rattle.step.specs.World.{worldIn}
 use Rattle.lavushmir.specs.Lent.{ramFits, romsFit, paperFits}
 
 -- ---- the lengths

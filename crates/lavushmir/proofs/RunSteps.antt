@@ -15,9 +15,9 @@ use Rattle.journal.specs.Journal.{slotsOf}
 use Rattle.state.specs.Layout.{bytesOf, machineOf}
 use Rattle.state.specs.declared.machine.Journal.{Journal}
 use Rattle.good.specs.Good.{machineIn}
-use Rattle.step.specs.World.{World, romsOf}
+use Rattle.step.specs.World.{World, romsOf, worldIn}
 use Rattle.step.specs.Step.{raisesOf}
-use Rattle.run.specs.Run.{forward, worldIn, configOf}
+use Rattle.run.specs.Run.{forward, configOf}
 use Rattle.lavushmir.specs.declared.answer.Answer.the-variants.{Done}
 use Rattle.lavushmir.specs.Answer.{reasonNumber, reasonOf, stepsOf, packedOf}
 use Rattle.lavushmir.specs.Run.{Left, leftOf, reasonNamed, machineAfter, ranOf, doneRun, runLeaves}

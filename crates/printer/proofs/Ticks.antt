@@ -1,15 +1,13 @@
--- The tick printer by printer, and ticks one after another; a tick of printers that are not busy does nothing.
+-- The tick printer by printer; a tick of printers that are not busy does nothing.
 use Prim.Native.Nat.{ℕ, zero, suc, _+_}
 use mathlib.Core.Path.{_≡_, refl, sym, ap}
-use mathlib.Core.Bool.{Bool, true, false, _||_, cond, false≢true}
+use mathlib.Core.Bool.{Bool, true, false, _||_, false≢true}
 use mathlib.Core.List.{List}
 use native.Mathlib.Numerals.{add-one}
 use lib.ListN.{getD, set}
 use lib.Seq.{set-getD}
 use Rattle.printer.specs.declared.Printer.{Printer}
-use Rattle.printer.specs.Tick.{Printing, printing, noPrinter, isBusy, printerTicked, paperTicked, tickOne, ticks, tickedOf, someBusy, anyBusy, OneIs, waitedOf}
-use Rattle.word.specs.Map.{withBit}
-use Rattle.printer.specs.declared.tick.One.{One}
+use Rattle.printer.specs.Tick.{Printing, printing, noPrinter, isBusy, printerTicked, paperTicked, tickOne, ticks, tickedOf, someBusy, anyBusy}
 
 -- neither of two
 pub neither : (a b : Bool) → (a || b) ≡ false → (a ≡ false) × (b ≡ false)
@@ -33,21 +31,6 @@ pub idle-tick : (s : Printing) → anyBusy (s .line .printers) ≡ false → tic
 idle-tick s e = idle-ticks 8 s e
 
 -- one turn of the loop over the printers
-pub tick-on : (n : ℕ) (s : Printing) (one : One) (map : ℕ) (after : List ℕ) →
-    OneIs n (getD (s .line .printers) n noPrinter) (s .paper) one after →
-    map ≡ cond (one .finished) (withBit n true (s .line .pending)) (s .line .pending) →
-    printing (set (s .line .printers) n (one .printer)) map after ≡ tickOne n s
-unfolding tickOne
-tick-on n s one map after is e = rw (e, is .printer-is, is .finished-is, is .paper-is)
-
 pub ticks-on : (n : ℕ) (s s₀ next : Printing) → s ≡ ticks n s₀ → next ≡ tickOne n s → next ≡ ticks (n + 1) s₀
 unfolding ticks
 ticks-on n s s₀ next e f = rw (f, e, add-one n)
-
--- one turn of a loop that waits: it ticks, or no printer is busy
-pub wait-ticks : (n : ℕ) (s s₀ next : Printing) → s ≡ waitedOf n s₀ → next ≡ tickedOf s → next ≡ waitedOf (n + 1) s₀
-unfolding waitedOf
-wait-ticks n s s₀ next e f = rw (f, e, add-one n)
-
-pub wait-idles : (n : ℕ) (s s₀ : Printing) → s ≡ waitedOf n s₀ → anyBusy (s .line .printers) ≡ false → s ≡ waitedOf (n + 1) s₀
-wait-idles n s s₀ e idle = wait-ticks n s s₀ s e (sym (idle-tick s idle))

@@ -1,15 +1,13 @@
 // What a record keeps of paper, and taking it back.
 ghost use mathlib.Core.Path.{_≡_};
-ghost use Prim.Native.Nat.{_<_, _/_};
-ghost use lib.Dec.{eqb, ltb};
+ghost use Prim.Native.Nat.{_<_};
 ghost use lib.ListN.{getD};
 ghost use Rattle.printer.specs.Tick.{roomOf, placeOf, prints};
-ghost use Rattle.printer.specs.Saved.{savedPaperOf, putAt, restoredPaper, paperFits};
+ghost use Rattle.printer.specs.Saved.{putAt, restoredPaper};
 ghost use mathlib.Core.Bool.{cond};
 use crate::Printer;
 use crate::tick::prints;
 use word::map::has_bit;
-use word::map::with_bit;
 
 pub struct SavedPaper {
     // The printers that print.
@@ -18,7 +16,7 @@ pub struct SavedPaper {
     pub bytes: [u8; 8],
 }
 
-fn saved_byte(n: usize, p: Printer, paper: &[u8]) -> u8
+pub fn saved_byte(n: usize, p: Printer, paper: &[u8]) -> u8
     requires { ⌜ n < 8 ⌝ }
     ensures { λ r. ⌜
         r
@@ -32,20 +30,6 @@ fn saved_byte(n: usize, p: Printer, paper: &[u8]) -> u8
         return paper[n * room + p.count as usize];
     }
     0
-}
-
-pub fn saved_paper(printers: [Printer; 8], paper: &[u8]) -> SavedPaper
-    ensures { λ r. ⌜ r ≡ savedPaperOf printers (now (paper .entry)) ⌝ }
-{
-    let room = paper.len() / 8;
-    let mut mask: u32 = 0;
-    let mut bytes = [0u8; 8];
-    for n in 0..8 {
-        let p = printers[n];
-        mask = with_bit(n, prints(room, p), mask);
-        bytes[n] = saved_byte(n, p, paper);
-    }
-    SavedPaper { mask, bytes }
 }
 
 // A place beyond the paper, as only a record that does not fit has, is passed over.
@@ -74,28 +58,4 @@ pub fn restore_paper(saved: SavedPaper, printers: [Printer; 8], paper: &mut [u8]
         let p = printers[n];
         put_at(has_bit(n, mask), n, p, bytes[n], paper);
     }
-}
-
-fn byte_fits(on: bool, p: Printer, byte: u8, room: usize) -> bool
-    ensures { λ r. ⌜ r ≡ cond on (ltb (p .count) room) (eqb byte 0) ⌝ }
-{
-    if on {
-        return (p.count as usize) < room;
-    }
-    byte == 0
-}
-
-// Whether a record's part for paper is well formed; `paper` is the length lent now.
-pub fn paper_fits(saved: SavedPaper, printers: [Printer; 8], paper: usize) -> bool
-    ensures { λ r. ⌜ r ≡ paperFits saved printers (paper / 8) ⌝ }
-{
-    let room = paper / 8;
-    let mask = saved.mask;
-    let bytes = saved.bytes;
-    let mut ok = true;
-    for n in 0..8 {
-        let p = printers[n];
-        ok = ok & byte_fits(has_bit(n, mask), p, bytes[n], room);
-    }
-    (mask < 256) & ok
 }

@@ -1,5 +1,5 @@
-// Step part 2: the tick of the printers. A run loop that keeps `any_busy` beside them as a local calls `tick` only while
-// one is busy: else nothing is copied and nothing is written (proofs/Ticks: idle-tick).
+// Step part 2: the tick of one printer. All eight tick where a run holds them (held::line), and only while one is busy: else nothing is written
+// (proofs/Ticks: idle-tick).
 ghost use mathlib.Core.Bool.{cond, true};
 ghost use mathlib.Core.Path.{_≡_};
 ghost use Prim.Native.Nat.{_<_, _≤_};
@@ -13,11 +13,8 @@ ghost use Rattle.printer.specs.Tick.{
   printerTicked,
   paperTicked,
   OneIs,
-  printing,
-  tickedOf,
 };
 use crate::BUSY;
-use crate::Line;
 use crate::PRINT_ERROR;
 use crate::PRINTCHR;
 use crate::Printer;
@@ -74,7 +71,7 @@ fn finish(n: usize, p: Printer, paper: &mut [u8])
     }
 }
 
-fn tick_one(n: usize, p: Printer, paper: &mut [u8]) -> One
+pub fn tick_one(n: usize, p: Printer, paper: &mut [u8]) -> One
     requires { ⌜ (n < 8) × (length (now paper) ≤ 65536) ⌝ }
     ensures { λ r. ⌜ OneIs n p (now (paper .entry)) r (now (paper .exit)) ⌝ }
 {
@@ -104,7 +101,7 @@ fn tick_one(n: usize, p: Printer, paper: &mut [u8]) -> One
     }
 }
 
-fn pending_on(n: usize, finished: bool, pending: u32) -> u32
+pub fn pending_on(n: usize, finished: bool, pending: u32) -> u32
     requires { ⌜ n < 8 ⌝ }
     ensures { λ r. ⌜ r ≡ cond finished (withBit n true pending) pending ⌝ }
 {
@@ -112,28 +109,6 @@ fn pending_on(n: usize, finished: bool, pending: u32) -> u32
         return with_bit(n, true, pending);
     }
     pending
-}
-
-pub fn tick(printers: [Printer; 8], pending: u32, paper: &mut [u8]) -> Line
-    requires { ⌜ length (now paper) ≤ 65536 ⌝ }
-    ensures { λ r. ⌜
-        printing (r .printers) (r .pending) (now (paper .exit))
-        ≡ tickedOf (printing printers pending (now (paper .entry)))
-        ⌝ }
-{
-    let mut all = printers;
-    let mut map = pending;
-    for n in 0..8 {
-        let p = all[n];
-        let one = tick_one(n, p, paper);
-        let next = one.printer;
-        all[n] = next;
-        map = pending_on(n, one.finished, map);
-    }
-    Line {
-        printers: all,
-        pending: map,
-    }
 }
 
 pub fn any_busy(printers: [Printer; 8]) -> bool

@@ -34,7 +34,7 @@ use Rattle.decide.specs.Access.{reachedOf}
 
 abbrev pub Coded : Reached → Type 0
 Coded (Lands place) = Unit {0}
-Coded (Exception code miss) = code ≤ 12
+Coded (Exception miss code) = code ≤ 12
 
 abbrev CodedAfter : Translated → Type 0
 CodedAfter (To p) = Unit {0}

@@ -30,7 +30,7 @@ module _ (core : Core) (pending : ℕ) (regs : List ℕ) (t : List Row) (lent : 
 
   fetched-proper : (answer : Reached) → Coded answer → Proper core pending (fetchedOf core regs t lent answer)
   fetched-proper (Lands place) h = execute-proper (wordIn lent place)
-  fetched-proper (Exception code miss) h = refused-proper core pending regs t lent s code miss (core .pc) h (pc-word core pending regs t lent s)
+  fetched-proper (Exception miss code) h = refused-proper core pending regs t lent s code miss (core .pc) h (pc-word core pending regs t lent s)
 
   decided : Proper core pending (decideOf core regs t lent)
   unfolding decideOf

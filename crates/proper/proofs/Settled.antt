@@ -75,11 +75,11 @@ module _ (core : Core) (pending : ℕ) (regs : List ℕ) (t : List Row) (lent : 
       }
 
   pub refused-proper : (code : ℕ) (miss : Bool) (address : ℕ) → code ≤ 12 → address < 2 ^ 32 → Proper core pending (refusedOf core code miss address)
-  refused-proper code miss address h l = raised-proper (record { code = code; miss = miss; coprocessor = 0; address = address }) h l
+  refused-proper code miss address h l = raised-proper (record { code = code; coprocessor = 0; address = address; miss = miss }) h l
 
   pub trapped-proper : (code coprocessor : ℕ) → code ≤ 12 → Proper core pending (trappedOf core code coprocessor)
   trapped-proper code coprocessor h =
-      raised-proper (record { code = code; miss = false; coprocessor = coprocessor; address = 0 }) h (omega arith)
+      raised-proper (record { code = code; coprocessor = coprocessor; address = 0; miss = false }) h (omega arith)
 
   pub settle-proper : (i : Intent) → Means (core .cp0) pending i → Proper core pending (settleOf core regs lent i)
   unfolding settleOf
@@ -87,10 +87,10 @@ module _ (core : Core) (pending : ℕ) (regs : List ℕ) (t : List Row) (lent : 
   settle-proper (intent.HiLo hi lo) h = on-proper (effect.HiLo hi lo) h
   settle-proper (intent.Load op d va (Lands place)) h =
       on-proper (loadsOf op d (regOf regs d) (wordIn lent place) place) (loads-leaves core pending op d (regOf regs d) (wordIn lent place) place (word-in-small lent bytes place))
-  settle-proper (intent.Load op d va (Exception code miss)) h = refused-proper code miss va (h .1) (h .0)
+  settle-proper (intent.Load op d va (Exception miss code)) h = refused-proper code miss va (h .1) (h .0)
   settle-proper (intent.Store op x va (Lands place)) h =
       on-proper (storesOf op x (wordIn lent place) place) (stores-leaves core pending op x (wordIn lent place) place (h .0))
-  settle-proper (intent.Store op x va (Exception code miss)) h = refused-proper code miss va (h .2) (h .1)
+  settle-proper (intent.Store op x va (Exception miss code)) h = refused-proper code miss va (h .2) (h .1)
   settle-proper (intent.SetControl r word) h = on-proper (effect.Control r word) h
   settle-proper (intent.SetEntry row) h = on-proper (effect.Entry row) h
   settle-proper (intent.SetRow i row) h = on-proper (effect.TlbRow i row) h

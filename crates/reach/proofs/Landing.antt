@@ -63,7 +63,7 @@ pub record Landing (access : Access) (sizes : Sizes) (a : ℕ) (place : Place) :
 module _ (access : Access) (sizes : Sizes) (a : ℕ) where
   abbrev LandsBy : Reached → Type 0
   LandsBy (Lands place) = Landing access sizes a place
-  LandsBy (Exception code miss) = Unit
+  LandsBy (Exception miss code) = Unit
 
   module _ (aligned : alignedOf (access .width) a ≡ true) where
     after-bus : (p : ℕ) → p % 4 ≡ a % 4 → (m : OnBus) → mappedOf sizes p ≡ m → LandsBy (landsOf (access .kind) (access .width) m)

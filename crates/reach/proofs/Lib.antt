@@ -1,2 +1,3 @@
 pub mod Landing
 pub mod Laws
+pub mod PlainLands

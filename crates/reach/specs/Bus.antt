@@ -23,5 +23,5 @@ permits kind width (Bootstrap at) = not (isStore kind)
 permits kind width (Device at) = not (isFetch kind) && isWord width
 
 abbrev pub landsOf : Kind → Width → OnBus → Reached
-landsOf kind width (In place) = cond (permits kind width place) (Lands place) (Exception (busError kind) false)
-landsOf kind width Nowhere = Exception (busError kind) false
+landsOf kind width (In place) = cond (permits kind width place) (Lands place) (Exception false (busError kind))
+landsOf kind width Nowhere = Exception false (busError kind)

@@ -4,3 +4,4 @@ pub mod Check
 pub mod Translate
 pub mod Bus
 pub mod Reach
+pub mod Plain

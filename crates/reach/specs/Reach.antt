@@ -18,11 +18,11 @@ use Rattle.reach.specs.declared.Reached.the-variants.{Exception}
 
 abbrev pub busAfter : Access → Sizes → Translated → Reached
 busAfter access sizes (To p) = landsOf (access .kind) (access .width) (mappedOf sizes p)
-busAfter access sizes (Raises code miss) = Exception code miss
+busAfter access sizes (Raises code miss) = Exception miss code
 
 -- t is the table, entry the EntryHi register
 unfoldable pub reachOf : Mode → Access → Sizes → ℕ → List Row → ℕ → Reached
 reachOf mode access sizes a t entry =
     cond (alignedOf (access .width) a && allowedOf mode a)
     (busAfter access sizes (translatedOf mode (access .kind) a t entry))
-    (Exception (addressError (access .kind)) false)
+    (Exception false (addressError (access .kind)))

@@ -43,10 +43,10 @@ fn permits(kind: Kind, width: Width, place: Place) -> bool
 }
 
 fn refused(kind: Kind) -> Reached
-    ensures { λ r. ⌜ r ≡ Reached.Exception (busError kind) false ⌝ }
+    ensures { λ r. ⌜ r ≡ Reached.Exception false (busError kind) ⌝ }
 {
     let code = bus_error(kind);
-    Reached::Exception { code, miss: false }
+    Reached::Exception { miss: false, code }
 }
 
 pub fn on_bus(kind: Kind, width: Width, sizes: Sizes, p: u32) -> Reached

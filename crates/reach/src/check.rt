@@ -18,7 +18,7 @@ pub fn address_error(kind: Kind) -> u32
     }
 }
 
-fn aligned(width: Width, a: u32) -> bool
+pub fn aligned(width: Width, a: u32) -> bool
     ensures { λ r. ⌜ r ≡ alignedOf width a ⌝ }
 {
     match width {

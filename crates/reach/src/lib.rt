@@ -1,36 +1,45 @@
 // Document 01, "Addresses": where an access lands, or which exception it is.
 ghost use mathlib.Core.Path.{_≡_};
+ghost use Rattle.tlb.specs.Words.{rowsIn};
 ghost use Rattle.reach.specs.Reach.{reachOf};
 use access::Access;
 use board::places::Place;
 use board::places::Sizes;
 use cp0::privilege::Mode;
-use tlb::Row;
 use translate::Translated;
 
 pub mod access; // what an instruction asks of an address
 mod bus; // what the board gives it there
 mod check; // alignment and privilege
 pub mod codes; // the exceptions' numbers
+pub mod plain; // an access that needs neither the table nor the map
 mod translate; // the physical address, by the table
 
+// The bool stands beside the tag and the code where a place's offset stands, so that neither overlaps a half of the other.
 pub enum Reached {
     Lands(Place),
-    Exception { code: u32, miss: bool },
+    Exception { miss: bool, code: u32 },
 }
 
-// `t` is the table and `entry` the EntryHi register.
-pub fn reach(mode: Mode, access: Access, sizes: Sizes, a: u32, t: [Row; 16], entry: u32) -> Reached
-    ensures { λ r. ⌜ r ≡ reachOf mode access sizes a t entry ⌝ }
+// `words` are the table's and `entry` is the EntryHi register.
+pub fn reach(
+    mode: Mode,
+    access: Access,
+    sizes: Sizes,
+    a: u32,
+    words: &[u32; 32],
+    entry: u32,
+) -> Reached
+    ensures { λ r. ⌜ r ≡ reachOf mode access sizes a (rowsIn (now (words .entry))) entry ⌝ }
 {
     let kind = access.kind;
     let width = access.width;
     if !check::checked(mode, width, a) {
         let code = check::address_error(kind);
-        return Reached::Exception { code, miss: false };
+        return Reached::Exception { miss: false, code };
     }
-    match translate::translate(mode, kind, a, t, entry) {
+    match translate::translate(mode, kind, a, words, entry) {
         Translated::To(p) => bus::on_bus(kind, width, sizes, p),
-        Translated::Raises { code, miss } => Reached::Exception { code, miss },
+        Translated::Raises { code, miss } => Reached::Exception { miss, code },
     }
 }

@@ -2,6 +2,7 @@
 ghost use mathlib.Core.Path.{_≡_};
 ghost use Rattle.reach.specs.Translate.{tlbError, soughtOf, isLocked, byRow, byFound, isVirtual, translatedOf};
 ghost use Rattle.tlb.specs.Search.{foundIn};
+ghost use Rattle.tlb.specs.Words.{rowsIn};
 use crate::access::Kind;
 use crate::access::is_store;
 use crate::codes::MOD;
@@ -62,12 +63,12 @@ fn by_row(kind: Kind, a: u32, row: Row) -> Translated
     Translated::To(row.low / 4096 * 4096 + a % 4096)
 }
 
-fn searched(kind: Kind, a: u32, t: [Row; 16], entry: u32) -> Translated
-    ensures { λ r. ⌜ r ≡ byFound kind a t (foundIn (soughtOf a entry) t) ⌝ }
+fn searched(kind: Kind, a: u32, words: &[u32; 32], entry: u32) -> Translated
+    ensures { λ r. ⌜ r ≡ byFound kind a (rowsIn (now (words .entry))) (foundIn (soughtOf a entry) (rowsIn (now (words .entry)))) ⌝ }
 {
-    match tlb::search(t, sought(a, entry)) {
+    match tlb::search_in(words, sought(a, entry)) {
         Found::At(i) => {
-            let row = t[i];
+            let row = tlb::row_in(words, i);
             by_row(kind, a, row)
         }
         Found::Nothing => Translated::Raises {
@@ -86,11 +87,11 @@ fn is_virtual(mode: Mode, a: u32) -> bool
     false
 }
 
-pub fn translate(mode: Mode, kind: Kind, a: u32, t: [Row; 16], entry: u32) -> Translated
-    ensures { λ r. ⌜ r ≡ translatedOf mode kind a t entry ⌝ }
+pub fn translate(mode: Mode, kind: Kind, a: u32, words: &[u32; 32], entry: u32) -> Translated
+    ensures { λ r. ⌜ r ≡ translatedOf mode kind a (rowsIn (now (words .entry))) entry ⌝ }
 {
     if is_virtual(mode, a) {
-        return searched(kind, a, t, entry);
+        return searched(kind, a, words, entry);
     }
     Translated::To(a)
 }

@@ -2,3 +2,4 @@ pub mod Stored
 pub mod RoundTrip
 pub mod Ranges
 pub mod Later
+pub mod Laid

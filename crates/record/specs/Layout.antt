@@ -42,6 +42,10 @@ layoutOf r =
 unfoldable pub recordBytes : Record → List ℕ
 recordBytes r = flat (toBytes 4) (layoutOf r)
 
+-- what is laid down before a step is decided, of the words that a run holds: it saves nothing yet
+unfoldable pub laidOf : List ℕ → List ℕ → List ℕ → List ℕ
+laidOf core small printers = core ++ (small ++ (savedWords Nothing ++ (printers ++ unused)))
+
 -- ---- words as a record: word k is `word k`
 
 abbrev pub cp0At : (ℕ → ℕ) → Cp0

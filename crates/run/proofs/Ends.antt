@@ -1,17 +1,22 @@
 -- The parts that the loop opens a machine into are that machine, and so are those that it closes again.
-use Prim.Native.Nat.{ℕ}
+use Prim.Native.Nat.{ℕ, _*_}
 use mathlib.Core.Path.{_≡_, refl, sym, ap, _∙_}
 use mathlib.Core.Bool.{Bool}
 use mathlib.Core.List.{List}
 use lib.ListN.{length}
+use Rattle.word.specs.Lists.{flat}
+use Rattle.word.proofs.Lists.{length-flat}
+use Rattle.tlb.specs.declared.Row.{Row}
+use Rattle.state.specs.Layout.{rowWords}
 use Rattle.ring.specs.Run.{Config, Ran, ended}
 use Rattle.ring.specs.Run as ring
 use Rattle.journal.specs.Journal.{slotsOf}
 use Rattle.printer.specs.Tick.{anyBusy}
 use Rattle.printer.specs.declared.Printer.{Printer}
 use Rattle.state.specs.declared.machine.Machine.{Machine}
-use Rattle.held.specs.Board.{Told}
-use Rattle.held.proofs.Board.{held-printers}
+use Rattle.state.proofs.Rows.{held-rows}
+use Rattle.held.proofs.Board.{held-printers, length-held}
+use Rattle.held.proofs.CoreWords.{core-held}
 use Rattle.step.specs.World.{Roms, romsOf}
 use Rattle.run.specs.Run.{forward, runOf, reasonOf, Fits, RunIs}
 use Rattle.run.specs.Run as run
@@ -20,15 +25,27 @@ use Rattle.run.specs.declared.Parts.{Parts}
 use Rattle.run.specs.declared.Spun.{Spun}
 use Rattle.run.specs.declared.Outcome.{Outcome}
 
-module _ (m : Machine) (eight : length (m .board .line .printers) ≡ 8) where
+two-words : (row : Row) → length (rowWords row) ≡ 2
+two-words row = refl
+
+length-table : (rows : List Row) → length rows ≡ 16 → length (flat rowWords rows) ≡ 32
+length-table rows sixteen = length-flat 2 rowWords two-words rows ∙ ap (λ (n : ℕ). 2 * n) sixteen
+
+module _ (m : Machine) (eight : length (m .board .line .printers) ≡ 8) (sixteen : length (m .cpu .tlb) ≡ 16) where
   opened-config : (roms : Roms) (ram paper journal : List ℕ) → configOf roms (partsOf m) (m .board .settings) ram paper journal ≡ run.configOf roms m ram paper journal
-  opened-config roms ram paper journal = rw (held-printers (m .board .line .printers) eight)
+  opened-config roms ram paper journal = rw (core-held (m .cpu .core), held-rows (m .cpu .tlb) sixteen, held-printers (m .board .line .printers) eight)
 
   pub opened-ready : {p : Parts} (execution bootstrap ram paper journal : List ℕ) → p ≡ partsOf m → Fits execution bootstrap ram paper journal m → Ready p execution bootstrap ram paper journal
   opened-ready execution bootstrap ram paper journal is fits =
       rw is
       (record {
-        told = ap anyBusy (sym (held-printers (m .board .line .printers) eight));
+        twelve = refl;
+        table = length-table (m .cpu .tlb) sixteen;
+        told =
+            record {
+              busy-is = ap anyBusy (sym (held-printers (m .board .line .printers) eight));
+              forty = length-held (m .board .line .printers) eight;
+            };
         whole = fits .whole;
         short = fits .short;
         ready = fits .ready;

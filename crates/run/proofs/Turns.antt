@@ -4,7 +4,7 @@ use mathlib.Core.Path.{_≡_, refl, sym, ap, _∙_}
 use mathlib.Core.Bool.{Bool, true, false, _&&_}
 use mathlib.Core.List.{List}
 use native.Mathlib.Omega.{arith}
-use lib.ListN.{length, length-set}
+use lib.ListN.{length, set, length-set}
 use Rattle.ring.specs.Machine.{Forward}
 use Rattle.ring.specs.Run.{Config, advance, ended, excepted}
 use Rattle.ring.specs.Run as ring
@@ -15,15 +15,17 @@ use Rattle.record.specs.Layout.{recordBytes}
 use Rattle.record.proofs.Stored.{length-bytes}
 use Rattle.journal.specs.Journal.{slotsOf, ringOf, Ready}
 use Rattle.tlb.specs.declared.Row.{Row}
-use Rattle.state.specs.declared.machine.Core.{Core}
+use Rattle.tlb.specs.Words.{rowsIn}
+use Rattle.tlb.proofs.Words.{length-rows}
 use Rattle.state.specs.declared.machine.Journal.{Journal}
 use Rattle.state.specs.declared.machine.Settings.{Settings}
 use Rattle.decide.specs.Lent.{Whole, lentOf}
 use Rattle.decide.specs.Range.{Within}
 use Rattle.decide.proofs.Laws.{decide-within}
 use Rattle.decide.specs.declared.effect.Effect.{Effect}
-use Rattle.decide.specs.declared.effect.Effect.the-variants.{Nothing, Register, HiLo, Control, Entry, TlbRow, Ram, DeviceLoad, DeviceStore, Raise}
+use Rattle.decide.specs.declared.effect.Effect.the-variants.{TlbRow}
 use Rattle.held.specs.Board.{boardOf}
+use Rattle.held.specs.Core.{coreIn}
 use Rattle.held.specs.declared.Held.{Held}
 use Rattle.held.proofs.Board.{length-printers}
 use Rattle.step.specs.World.{World, Roms, worldOf, romsOf}
@@ -31,7 +33,7 @@ use Rattle.step.specs.Tick.{tickOf}
 use Rattle.step.specs.Parts.{rowsAfter}
 use Rattle.step.specs.Step.{enters, raisesOf, stepOf}
 use Rattle.step.specs.Note.{noteOf}
-use Rattle.turn.specs.Turn.{TurnIs}
+use Rattle.turn.specs.Turn.{worldHeld, TurnIs}
 use Rattle.turn.specs.declared.Turned.{Turned}
 use Rattle.run.specs.Run.{forward}
 
@@ -47,6 +49,10 @@ pub and-false : (b : Bool) → (b && false) ≡ false
 and-false true = refl
 and-false false = refl
 
+-- a row of the table is two words
+pub long-set : (rows : List ℕ) (i j x y : ℕ) → length (set (set rows i x) j y) ≡ length rows
+long-set rows i j x y = length-set (set rows i x) j y ∙ length-set rows i x
+
 -- a record is as long as a slot
 note-long : (roms : Roms) (w : World) → length (w .board .line .printers) ≡ 8 → length (recordBytes (noteOf roms w)) ≡ 256
 unfolding noteOf
@@ -55,21 +61,9 @@ note-long roms w eight = length-bytes (noteOf roms w) eight
 in-rows : (room rows : ℕ) {i : ℕ} {row : Row} {e : Effect} → e ≡ TlbRow i row → Within room rows e → i < rows
 in-rows room rows is w = rw is at w
 
-pub rows-long : (e : Effect) (t : List Row) → length (rowsAfter e t) ≡ length t
-rows-long Nothing t = refl
-rows-long (Register d word) t = refl
-rows-long (HiLo hi lo) t = refl
-rows-long (Control r word) t = refl
-rows-long (Entry row) t = refl
-rows-long (TlbRow i row) t = length-set t i row
-rows-long (Ram at word) t = refl
-rows-long (DeviceLoad d offset) t = refl
-rows-long (DeviceStore offset word) t = refl
-rows-long (Raise e) t = refl
-
-module _ (execution bootstrap : List ℕ) (n budget : ℕ) (stop : Bool) {core : Core} {held : Held} {settings : Settings} {words : List ℕ} {t : List Row}
-    {regs ram paper journal : List ℕ} {mark : Journal} {r : Turned} {words′ regs′ ram′ paper′ journal′ : List ℕ}
-    (turned : TurnIs execution bootstrap core held settings words t regs ram paper journal mark r words′ regs′ ram′ paper′ journal′) where
+module _ (execution bootstrap : List ℕ) (n budget : ℕ) (stop : Bool) {core : List ℕ} {held : Held} {settings : Settings} {words rows : List ℕ}
+    {regs ram paper journal : List ℕ} {mark : Journal} {r : Turned} {core′ words′ regs′ ram′ paper′ journal′ : List ℕ}
+    (turned : TurnIs execution bootstrap core held settings words rows regs ram paper journal mark r core′ words′ regs′ ram′ paper′ journal′) where
   abbrev roms : Roms
   roms = romsOf execution bootstrap
 
@@ -77,22 +71,23 @@ module _ (execution bootstrap : List ℕ) (n budget : ℕ) (stop : Bool) {core :
   F = forward roms
 
   abbrev before : World
-  before = worldOf core (boardOf held settings words) regs t ram paper
+  before = worldHeld core held settings words rows regs ram paper
 
   abbrev pub here : Config F
   here = record { state = before; ring = ringOf mark journal }
 
-  abbrev pub there : List Row → Config F
-  there rows =
-      record { state = worldOf (r .core) (boardOf (r .held) settings words′) regs′ rows ram′ paper′; ring = ringOf (r .mark) journal′ }
+  -- with the table that the loop then has
+  abbrev pub there : List ℕ → Config F
+  there rows′ = record { state = worldHeld core′ (r .held) settings words′ rows′ regs′ ram′ paper′; ring = ringOf (r .mark) journal′ }
 
   -- a row that the step sets is one of the sixteen
-  pub row-in : Whole (lentOf execution bootstrap ram) → length t ≡ 16 → {i : ℕ} {row : Row} → r .effect ≡ TlbRow i row → i < 16
+  pub row-in : Whole (lentOf execution bootstrap ram) → {i : ℕ} {row : Row} → r .effect ≡ TlbRow i row → i < 16
   unfolding tickOf
-  row-in whole sixteen {i} {row} told =
-      let some : 0 < length t = omega (arith, sixteen) in
-      let within = decide-within (lentOf execution bootstrap ram) whole t some (tickOf before .cpu .core) regs in
-      rw sixteen at (in-rows (length ram) (length t) (sym (turned .effect-is) ∙ told) within)
+  row-in whole {i} {row} told =
+      let sixteen = length-rows rows in
+      let some : 0 < length (rowsIn rows) = omega (arith, sixteen) in
+      let within = decide-within (lentOf execution bootstrap ram) whole (rowsIn rows) some (tickOf before .cpu .core) regs in
+      rw sixteen at (in-rows (length ram) (length (rowsIn rows)) (sym (turned .effect-is) ∙ told) within)
 
   -- the journal is ready for the next turn
   pub ready : length journal′ ≡ length journal → Ready journal mark → Ready journal′ (r .mark)
@@ -106,17 +101,17 @@ module _ (execution bootstrap : List ℕ) (n budget : ℕ) (stop : Bool) {core :
             (was .sound));
       }
 
-  module _ (same : slotsOf journal ≡ n) {e : Effect} (told : r .effect ≡ e) {rows : List Row} (set : rowsAfter e t ≡ rows) where
-    state-is : there rows .state ≡ stepOf roms before
+  module _ (same : slotsOf journal ≡ n) {e : Effect} (told : r .effect ≡ e) (rows′ : List ℕ) (set : rowsAfter e (rowsIn rows) ≡ rowsIn rows′) where
+    state-is : there rows′ .state ≡ stepOf roms before
     state-is =
-        ap (λ (l : List Row). worldOf (r .core) (boardOf (r .held) settings words′) regs′ l ram′ paper′)
-        (sym (ap (λ (x : Effect). rowsAfter x t) told ∙ set))
+        ap (λ (l : List Row). worldOf (coreIn core′) (boardOf (r .held) settings words′) regs′ l ram′ paper′)
+        (sym (ap (λ (x : Effect). rowsAfter x (rowsIn rows)) told ∙ set))
         ∙ turned .world-is
 
-    ring-is : there rows .ring ≡ written 256 n (recordBytes (noteOf roms before)) (ringOf mark journal)
+    ring-is : there rows′ .ring ≡ written 256 n (recordBytes (noteOf roms before)) (ringOf mark journal)
     ring-is = turned .ring-is ∙ ap (λ (k : ℕ). written 256 k (recordBytes (noteOf roms before)) (ringOf mark journal)) same
 
-    advances : there rows ≡ advance F n here
+    advances : there rows′ ≡ advance F n here
     unfolding advance
     advances = rw (state-is, ring-is)
 
@@ -124,8 +119,8 @@ module _ (execution bootstrap : List ℕ) (n budget : ℕ) (stop : Bool) {core :
     raises = ap enters (sym (turned .effect-is) ∙ told)
 
     module _ (c₀ : Config F) (j : ℕ) (left : j < budget) (reached : Reached F n budget stop c₀ j here) where
-      pub goes : (stop && enters e) ≡ false → Reached F n budget stop c₀ (j + 1) (there rows)
+      pub goes : (stop && enters e) ≡ false → Reached F n budget stop c₀ (j + 1) (there rows′)
       goes q = rw advances (reached-goes F n budget stop c₀ j here left reached refl (rw raises q))
 
-      pub ends : (stop && enters e) ≡ true → ring.run F n budget stop c₀ ≡ ended (there rows) (j + 1) excepted
+      pub ends : (stop && enters e) ≡ true → ring.run F n budget stop c₀ ≡ ended (there rows′) (j + 1) excepted
       ends q = rw advances (reached-stops F n budget stop c₀ j here left reached refl (rw raises q))

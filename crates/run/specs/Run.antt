@@ -11,7 +11,7 @@ use Rattle.record.specs.Layout.{recordBytes}
 use Rattle.journal.specs.Journal.{slotsOf, ringOf, Ready}
 use Rattle.state.specs.declared.machine.Machine.{Machine}
 use Rattle.decide.specs.Lent.{Whole, lentOf}
-use Rattle.step.specs.World.{World, Roms, romsOf}
+use Rattle.step.specs.World.{World, Roms, romsOf, worldIn}
 use Rattle.step.specs.Step.{raisesOf, stepOf}
 use Rattle.step.specs.Note.{noteOf}
 use Rattle.run.specs.declared.Stop.{Stop}
@@ -28,10 +28,6 @@ forward roms =
       size = 256;
       note = λ w. recordBytes (noteOf roms w);
     }
-
--- the image's machine with what is lent beside it
-abbrev pub worldIn : Machine → List ℕ → List ℕ → World
-worldIn m ram paper = record { cpu = m .cpu; board = m .board; ram = ram; paper = paper }
 
 abbrev pub configOf : (roms : Roms) → Machine → List ℕ → List ℕ → List ℕ → Config (forward roms)
 configOf roms m ram paper journal = record { state = worldIn m ram paper; ring = ringOf (m .journal) journal }

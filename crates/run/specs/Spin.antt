@@ -10,12 +10,15 @@ use Rattle.ring.specs.Run as ring
 use Rattle.journal.specs.Journal.{slotsOf, ringOf}
 use Rattle.journal.specs.Journal as slots
 use Rattle.printer.specs.Tick.{anyBusy}
-use Rattle.state.specs.Layout.{printerWords}
+use Rattle.tlb.specs.Words.{rowsIn}
+use Rattle.state.specs.Layout.{coreWords, rowWords, printerWords}
 use Rattle.state.specs.declared.machine.Machine.{Machine}
 use Rattle.state.specs.declared.machine.Settings.{Settings}
 use Rattle.decide.specs.Lent.{Whole, lentOf}
 use Rattle.held.specs.Board.{boardOf, Told}
-use Rattle.step.specs.World.{World, Roms, romsOf, worldOf}
+use Rattle.held.specs.Core.{coreIn}
+use Rattle.step.specs.World.{Roms, romsOf}
+use Rattle.turn.specs.Turn.{worldHeld}
 use Rattle.run.specs.Run.{forward, reasonOf}
 use Rattle.run.specs.declared.Parts.{Parts}
 use Rattle.run.specs.declared.Spun.{Spun}
@@ -23,10 +26,10 @@ use Rattle.run.specs.declared.Spun.{Spun}
 abbrev pub partsOf : Machine → Parts
 partsOf m =
     record {
-      core = m .cpu .core;
+      core = coreWords (m .cpu .core);
       held = record { clock = m .board .clock; pending = m .board .line .pending; busy = anyBusy (m .board .line .printers) };
       regs = m .cpu .regs;
-      rows = m .cpu .tlb;
+      rows = flat rowWords (m .cpu .tlb);
       words = flat printerWords (m .board .line .printers);
       mark = m .journal;
     }
@@ -34,7 +37,7 @@ partsOf m =
 abbrev pub machineOf : Parts → Settings → Machine
 machineOf p settings =
     record {
-      cpu = record { regs = p .regs; core = p .core; tlb = p .rows };
+      cpu = record { regs = p .regs; core = coreIn (p .core); tlb = rowsIn (p .rows) };
       board = boardOf (p .held) settings (p .words);
       journal = p .mark;
     }
@@ -42,11 +45,13 @@ machineOf p settings =
 abbrev pub configOf : (roms : Roms) → Parts → Settings → List ℕ → List ℕ → List ℕ → Config (forward roms)
 configOf roms p settings ram paper journal =
     record {
-      state = worldOf (p .core) (boardOf (p .held) settings (p .words)) (p .regs) (p .rows) ram paper;
+      state = worldHeld (p .core) (p .held) settings (p .words) (p .rows) (p .regs) ram paper;
       ring = ringOf (p .mark) journal;
     }
 
 pub record Ready (p : Parts) (execution bootstrap ram paper journal : List ℕ) : Type 0 where
+  pub twelve : length (p .core) ≡ 12
+  pub table : length (p .rows) ≡ 32
   pub told : Told (p .held) (p .words)
   pub whole : Whole (lentOf execution bootstrap ram)
   pub short : length paper ≤ 65536

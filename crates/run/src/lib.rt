@@ -1,21 +1,26 @@
-// The run loop. It holds the machine's parts as locals, so that no step copies them all: the registers and the printers' words are changed where they stand, and a row
-// of the translation table is set here, where the effect says so.
+// The run loop. It holds the machine's parts as locals, so that no step copies them all: the registers, and as words the core, the printers and the translation table,
+// are lent to each step and changed where they stand.
 ghost use mathlib.Core.Path.{_≡_};
+ghost use Prim.Native.Nat.{_+_, _*_, _<_};
+ghost use lib.ListN.{set};
 ghost use Rattle.run.specs.Run.{Fits, RunIs};
 ghost use Rattle.run.specs.Spin.{partsOf, machineOf, Ready, SpinIs};
 use decide::effect::Effect;
 use held::Held;
+use held::core::core_in;
 use held::packed;
 use held::unpacked;
 use printer::Line;
 use printer::tick::any_busy;
+use state::encode::core_words;
+use state::encode::row_words;
 use state::machine::Board;
-use state::machine::Core;
 use state::machine::Cpu;
 use state::machine::Journal;
 use state::machine::Machine;
 use state::machine::Settings;
 use tlb::Row;
+use tlb::rows_in;
 use turn::turn;
 
 // Why a run ended.
@@ -32,10 +37,10 @@ pub struct Outcome {
 
 // The parts that the loop holds as locals.
 pub struct Parts {
-    pub core: Core,
+    pub core: [u32; 12],
     pub held: Held,
     pub regs: [u32; 32],
-    pub rows: [Row; 16],
+    pub rows: [u32; 32],
     pub words: [u32; 40],
     pub mark: Journal,
 }
@@ -50,9 +55,10 @@ fn opened(machine: Machine) -> Parts
     ensures { λ r. ⌜ r ≡ partsOf machine ⌝ }
 {
     let cpu = machine.cpu;
-    let core = cpu.core;
+    let core = core_words(cpu.core);
     let regs = cpu.regs;
-    let rows = cpu.tlb;
+    let table = cpu.tlb;
+    let rows = row_words(table);
     let board = machine.board;
     let clock = board.clock;
     let line = board.line;
@@ -86,15 +92,13 @@ fn closed(parts: Parts, settings: Settings) -> Machine
         pending: held.pending,
     };
     let regs = parts.regs;
-    let core = parts.core;
+    let twelve = parts.core;
+    let core = core_in(&twelve);
     let rows = parts.rows;
+    let tlb = rows_in(&rows);
     let journal = parts.mark;
     Machine {
-        cpu: Cpu {
-            regs,
-            core,
-            tlb: rows,
-        },
+        cpu: Cpu { regs, core, tlb },
         board: Board {
             clock,
             settings,
@@ -102,6 +106,15 @@ fn closed(parts: Parts, settings: Settings) -> Machine
         },
         journal,
     }
+}
+
+fn put_row(rows: &mut [u32; 32], i: u32, row: Row)
+    requires { ⌜ i < 16 ⌝ }
+    ensures { λ _. ⌜ now (rows .exit) ≡ set (set (now (rows .entry)) (2 * i) (row .high)) (2 * i + 1) (row .low) ⌝ }
+{
+    let at = 2 * (i as usize);
+    rows[at] = row.high;
+    rows[at + 1] = row.low;
 }
 
 fn spin(
@@ -133,11 +146,11 @@ fn spin(
             break Stop::Budget;
         }
         let turned = turn(
-            core,
+            &mut core,
             held,
             settings,
             &mut words,
-            rows,
+            &rows,
             &mut regs,
             execution,
             bootstrap,
@@ -146,7 +159,6 @@ fn spin(
             journal,
             mark,
         );
-        core = turned.core;
         held = turned.held;
         mark = turned.mark;
         steps = steps + 1;
@@ -157,9 +169,7 @@ fn spin(
                     break Stop::Exception;
                 }
             }
-            Effect::TlbRow(i, row) => {
-                rows[i] = row;
-            }
+            Effect::TlbRow(i, row) => put_row(&mut rows, i, row),
             Effect::Nothing => {}
             Effect::Register(_, _) => {}
             Effect::HiLo(_, _) => {}

@@ -55,7 +55,7 @@ fn last_words(pending: u32, j: Journal) -> [u32; 3]
     [pending, j.on_hand, j.next_slot]
 }
 
-fn row_words(rows: [Row; 16]) -> [u32; 32]
+pub fn row_words(rows: [Row; 16]) -> [u32; 32]
     ensures { λ r. ⌜ r ≡ flat rowWords rows ⌝ }
 {
     let mut words = [0u32; 32];

@@ -5,6 +5,7 @@ use Rattle.tlb.specs.declared.Row.{Row}
 use Rattle.state.specs.declared.machine.Core.{Core}
 use Rattle.state.specs.declared.machine.Cpu.{Cpu}
 use Rattle.state.specs.declared.machine.Board.{Board}
+use Rattle.state.specs.declared.machine.Machine.{Machine}
 use Rattle.decide.specs.Lent.{Lent, lentOf}
 
 pub record World : Type 0 where
@@ -24,6 +25,10 @@ romsOf execution bootstrap = record { execution = execution; bootstrap = bootstr
 abbrev pub worldOf : Core → Board → List ℕ → List Row → List ℕ → List ℕ → World
 worldOf core board regs t ram paper =
     record { cpu = record { regs = regs; core = core; tlb = t }; board = board; ram = ram; paper = paper }
+
+-- the machine of an image with what is lent beside it
+abbrev pub worldIn : Machine → List ℕ → List ℕ → World
+worldIn m ram paper = record { cpu = m .cpu; board = m .board; ram = ram; paper = paper }
 
 -- what an instruction reads from
 abbrev pub lentIn : Roms → World → Lent

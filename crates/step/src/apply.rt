@@ -3,21 +3,22 @@
 ghost use mathlib.Core.Path.{_≡_};
 ghost use Prim.Native.Nat.{_+_, _<_, _≤_};
 ghost use lib.ListN.{length};
-ghost use Rattle.bus.specs.Store.{busWriteOf};
+ghost use Rattle.bus.specs.Stored.{InLine};
 ghost use Rattle.bus.specs.Words.{busWordOf};
 ghost use Rattle.cp0.specs.Registers.{withRegister};
 ghost use Rattle.isa.specs.declared.instr.ControlRegister.the-variants.{Cause};
 ghost use Rattle.held.specs.Board.{printersIn, Told};
-ghost use Rattle.step.specs.Apply.{withHiLo, withCp0, withPc, boardStored};
+ghost use Rattle.held.specs.Core.{coreIn};
+ghost use Rattle.step.specs.Apply.{withHiLo, withCp0, withPc};
 ghost use Rattle.step.specs.Parts.{regsAfter, ramAfter, coreAfter};
-ghost use Rattle.step.specs.Held.{HeldIs, ApplyIs};
+ghost use Rattle.step.specs.Held.{StoredIs, HeldIs, ApplyIs};
 ghost use Rattle.decide.specs.Range.{Within};
 use board::places::Sizes;
 use bus::read::Bus;
+use bus::store::Store;
 use bus::store::cause_stored;
-use bus::store::clock_stored;
-use bus::store::line_stored;
 use bus::store::write;
+use clock::Clock;
 use cp0::entry::entered;
 use cp0::registers::Cp0;
 use cp0::registers::with_entry;
@@ -25,13 +26,13 @@ use cp0::registers::with_register;
 use decide::effect::Decision;
 use decide::effect::Effect;
 use held::Held;
+use held::core::core_in;
+use held::core::put_core;
+use held::line::busy_in;
+use held::line::command;
+use held::line::data;
 use held::printer_in;
-use held::repack;
-use held::unpacked;
 use isa::instr::ControlRegister;
-use printer::Line;
-use printer::tick::any_busy;
-use state::machine::Board;
 use state::machine::Core;
 use state::machine::Settings;
 
@@ -97,21 +98,24 @@ fn with_hi_lo(c: Core, hi: u32, lo: u32) -> Core
     }
 }
 
-// `pending` is the printers' map after the effect.
-pub fn core_after(c: Core, effect: Effect, pending: u32) -> Core
-    ensures { λ r. ⌜ r ≡ coreAfter pending effect c ⌝ }
+// `pending` is the printers' map after the effect. Only what an arm changes is written.
+pub fn move_core(core: &mut [u32; 12], effect: Effect, pending: u32)
+    ensures { λ _. ⌜ coreIn (now (core .exit)) ≡ coreAfter pending effect (coreIn (now (core .entry))) ⌝ }
 {
+    let c = core_in(core);
     match effect {
-        Effect::Nothing => c,
-        Effect::Register(_, _) => c,
-        Effect::HiLo(hi, lo) => with_hi_lo(c, hi, lo),
-        Effect::Control(register, word) => with_cp0(c, with_register(c.cp0, register, word)),
-        Effect::Entry(row) => with_cp0(c, with_entry(c.cp0, row.high, row.low)),
-        Effect::TlbRow(_, _) => c,
-        Effect::Ram(_, _) => c,
-        Effect::DeviceLoad(_, _) => c,
-        Effect::DeviceStore(offset, word) => stored_lines(c, offset, word, pending),
-        Effect::Raise(e) => with_cp0(c, entered(c.cp0, e, c.pc)),
+        Effect::Nothing => {}
+        Effect::Register(_, _) => {}
+        Effect::HiLo(hi, lo) => put_core(with_hi_lo(c, hi, lo), core),
+        Effect::Control(register, word) => {
+            put_core(with_cp0(c, with_register(c.cp0, register, word)), core)
+        }
+        Effect::Entry(row) => put_core(with_cp0(c, with_entry(c.cp0, row.high, row.low)), core),
+        Effect::TlbRow(_, _) => {}
+        Effect::Ram(_, _) => {}
+        Effect::DeviceLoad(_, _) => {}
+        Effect::DeviceStore(offset, word) => put_core(stored_lines(c, offset, word, pending), core),
+        Effect::Raise(e) => put_core(with_cp0(c, entered(c.cp0, e, c.pc)), core),
     }
 }
 
@@ -136,22 +140,70 @@ pub fn with_pc(c: Core, pc: u32, next_pc: u32) -> Core
     }
 }
 
-fn stored_board(b: Board, offset: u32, word: u32) -> Board
-    ensures { λ r. ⌜ r ≡ boardStored (busWriteOf offset word) b ⌝ }
+// A store in the device area, on the parts that a run holds.
+fn stored(s: Store, held: Held, settings: Settings, words: &mut [u32; 40]) -> Held
+    requires { ⌜ InLine s ⌝ }
+    requires { ⌜ Told held (now words) ⌝ }
+    ensures { λ r. ⌜ StoredIs settings s held (now (words .entry)) r (now (words .exit)) ⌝ }
 {
-    let s = write(offset, word);
-    let settings = b.settings;
-    let clock = clock_stored(s, b.clock);
-    let line = b.line;
-    let stored = line_stored(s, line, settings.installed, settings.delay);
-    Board {
-        clock,
-        settings,
-        line: stored,
+    match s {
+        Store::Nothing => held,
+        Store::Timer(word) => timed(held, word),
+        Store::Command(n, word) => commanded(held, settings, words, n, word),
+        Store::Data(n, word) => written(held, settings, words, n, word),
     }
 }
 
-// A store in the device area, on the parts that a run holds.
+fn timed(held: Held, timer: u32) -> Held
+    ensures { λ r. ⌜ r ≡ record { clock = record { high = held .clock .high; low = held .clock .low; timer = timer }; pending = held .pending; busy = held .busy } ⌝ }
+{
+    let clock = held.clock;
+    Held {
+        clock: Clock {
+            high: clock.high,
+            low: clock.low,
+            timer,
+        },
+        pending: held.pending,
+        busy: held.busy,
+    }
+}
+
+fn commanded(held: Held, settings: Settings, words: &mut [u32; 40], n: usize, word: u32) -> Held
+    requires { ⌜ n < 8 ⌝ }
+    requires { ⌜ Told held (now words) ⌝ }
+    ensures { λ r. ⌜ StoredIs settings (Store.Command n word) held (now (words .entry)) r (now (words .exit)) ⌝ }
+{
+    let clock = held.clock;
+    let pending = command(
+        words,
+        held.pending,
+        settings.installed,
+        settings.delay,
+        n,
+        word,
+    );
+    Held {
+        clock,
+        pending,
+        busy: busy_in(words),
+    }
+}
+
+fn written(held: Held, settings: Settings, words: &mut [u32; 40], n: usize, word: u32) -> Held
+    requires { ⌜ n < 8 ⌝ }
+    requires { ⌜ Told held (now words) ⌝ }
+    ensures { λ r. ⌜ StoredIs settings (Store.Data n word) held (now (words .entry)) r (now (words .exit)) ⌝ }
+{
+    let clock = held.clock;
+    data(words, settings.installed, n, word);
+    Held {
+        clock,
+        pending: held.pending,
+        busy: busy_in(words),
+    }
+}
+
 fn store_device(
     offset: u32,
     word: u32,
@@ -159,31 +211,10 @@ fn store_device(
     settings: Settings,
     words: &mut [u32; 40],
 ) -> Held
+    requires { ⌜ Told held (now words) ⌝ }
     ensures { λ r. ⌜ HeldIs settings (Effect.DeviceStore offset word) held (now (words .entry)) r (now (words .exit)) ⌝ }
 {
-    let line = Line {
-        printers: unpacked(words),
-        pending: held.pending,
-    };
-    let clock = held.clock;
-    let next = stored_board(
-        Board {
-            clock,
-            settings,
-            line,
-        },
-        offset,
-        word,
-    );
-    let beat = next.clock;
-    let after = next.line;
-    let all = after.printers;
-    repack(all, words);
-    Held {
-        clock: beat,
-        pending: after.pending,
-        busy: any_busy(all),
-    }
+    stored(write(offset, word), held, settings, words)
 }
 
 fn held_after(effect: Effect, held: Held, settings: Settings, words: &mut [u32; 40]) -> Held
@@ -204,15 +235,9 @@ fn held_after(effect: Effect, held: Held, settings: Settings, words: &mut [u32; 
     }
 }
 
-// What a decision leaves of the core and of what is held of the board.
-pub struct AfterEffect {
-    pub core: Core,
-    pub held: Held,
-}
-
 // A row of the table is the caller's to set, where the effect says so.
 pub fn applied(
-    core: Core,
+    core: &mut [u32; 12],
     held: Held,
     settings: Settings,
     words: &mut [u32; 40],
@@ -220,12 +245,12 @@ pub fn applied(
     sizes: Sizes,
     regs: &mut [u32; 32],
     ram: &mut [u8],
-) -> AfterEffect
+) -> Held
     requires { ⌜ Within (length (now ram)) 16 (d .effect) ⌝ }
     requires { ⌜ Told held (now words) ⌝ }
     ensures { λ r. ⌜
-        ApplyIs settings sizes d core held (now (words .entry)) (now (regs .entry)) (now (ram .entry)) r
-        (now (words .exit)) (now (regs .exit)) (now (ram .exit))
+        ApplyIs settings sizes d (now (core .entry)) held (now (words .entry)) (now (regs .entry)) (now (ram .entry)) r
+        (now (core .exit)) (now (words .exit)) (now (regs .exit)) (now (ram .exit))
         ⌝ }
 {
     let effect = d.effect;
@@ -239,9 +264,8 @@ pub fn applied(
     };
     write_back(effect, bus, words, regs, ram);
     let next = held_after(effect, held, settings, words);
-    let moved = core_after(core, effect, next.pending);
-    AfterEffect {
-        core: with_pc(moved, d.pc, d.next_pc),
-        held: next,
-    }
+    move_core(core, effect, next.pending);
+    let moved = core_in(core);
+    put_core(with_pc(moved, d.pc, d.next_pc), core);
+    next
 }

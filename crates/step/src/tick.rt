@@ -11,11 +11,11 @@ use cp0::interrupt::with_line;
 use cp0::random::next_random;
 use cp0::registers::Cp0;
 use held::Held;
-use held::repack;
-use held::unpacked;
+use held::core::core_in;
+use held::core::put_core;
+use held::line::busy_in;
+use held::line::tick;
 use printer::cause::shown;
-use printer::tick::any_busy;
-use printer::tick::tick;
 use state::machine::Core;
 use state::machine::Settings;
 
@@ -57,11 +57,6 @@ pub fn core_ticked(rang: bool, pending: u32, c: Core) -> Core
     }
 }
 
-pub struct AfterTick {
-    pub core: Core,
-    pub held: Held,
-}
-
 pub struct AfterPrinters {
     pub pending: u32,
     pub busy: bool,
@@ -70,7 +65,7 @@ pub struct AfterPrinters {
 // Printers that all stand still are not looked at (printer/proofs/Ticks: idle-tick).
 fn printed(words: &mut [u32; 40], pending: u32, busy: bool, paper: &mut [u8]) -> AfterPrinters
     requires { ⌜ length (now paper) ≤ 65536 ⌝ }
-    requires { ⌜ busy ≡ anyBusy (printersIn (now words)) ⌝ }
+    requires { ⌜ (busy ≡ anyBusy (printersIn (now words))) × (length (now words) ≡ 40) ⌝ }
     ensures { λ r. ⌜
         PrintedIs (now (words .entry)) pending (now (paper .entry)) r (now (words .exit)) (now (paper .exit))
         ⌝ }
@@ -78,39 +73,35 @@ fn printed(words: &mut [u32; 40], pending: u32, busy: bool, paper: &mut [u8]) ->
     if !busy {
         return AfterPrinters { pending, busy };
     }
-    let line = tick(unpacked(words), pending, paper);
-    let all = line.printers;
-    repack(all, words);
+    let map = tick(words, pending, paper);
     AfterPrinters {
-        pending: line.pending,
-        busy: any_busy(all),
+        pending: map,
+        busy: busy_in(words),
     }
 }
 
 // Neither registers, nor table, nor RAM have a part in it.
 pub fn ticked(
-    core: Core,
+    core: &mut [u32; 12],
     held: Held,
     settings: Settings,
     words: &mut [u32; 40],
     paper: &mut [u8],
-) -> AfterTick
+) -> Held
     requires { ⌜ length (now paper) ≤ 65536 ⌝ }
     requires { ⌜ Told held (now words) ⌝ }
     ensures { λ r. ⌜
-        TickIs settings core held (now (words .entry)) (now (paper .entry)) r (now (words .exit)) (now (paper .exit))
+        TickIs settings (now (core .entry)) held (now (words .entry)) (now (paper .entry)) r (now (core .exit)) (now (words .exit)) (now (paper .exit))
         ⌝ }
 {
     let printed = printed(words, held.pending, held.busy, paper);
     let beat = tick_of(held.clock);
     let clock = beat.clock;
-    let next = core_ticked(beat.rang, printed.pending, core);
-    AfterTick {
-        core: next,
-        held: Held {
-            clock,
-            pending: printed.pending,
-            busy: printed.busy,
-        },
+    let was = core_in(core);
+    put_core(core_ticked(beat.rang, printed.pending, was), core);
+    Held {
+        clock,
+        pending: printed.pending,
+        busy: printed.busy,
     }
 }

@@ -1,8 +1,11 @@
 -- Tick, decide, note, apply: that is a step. Over plain values, so that the walk of the code hands its facts over by name.
 use Prim.Native.Nat.{ℕ, _<_}
 use mathlib.Core.Path.{_≡_, sym, ap, _∙_}
+use mathlib.Core.Bool.{true}
 use mathlib.Core.List.{List, []}
 use native.Mathlib.Omega.{arith}
+use borrow.Author.Tests.{eq-eqb}
+use lib.Dec.{eqb}
 use lib.ListN.{length}
 use Rattle.board.specs.declared.places.Sizes.{Sizes}
 use Rattle.printer.specs.Saved.{savedPaperOf}
@@ -31,8 +34,6 @@ use Rattle.record.specs.Layout.{recordBytes}
 use Rattle.journal.specs.Journal.{slotsOf, ringOf, Ready, begunOf, endedOf, withSaved}
 use Rattle.journal.proofs.TwoParts.{begun-ended, begun-ready}
 use Rattle.state.specs.declared.machine.Journal.{Journal}
-use Rattle.held.specs.Board.{printersIn}
-use Rattle.held.proofs.Board.{length-printers}
 
 module _ (execution bootstrap : List ℕ) (core : Core) (board : Board) (t : List Row) (regs ram paper : List ℕ)
     {core₁ : Core} {board₁ : Board} {paper₁ : List ℕ} {d : Decision}
@@ -99,5 +100,13 @@ ring-is mark journal ready r old eight first last noted =
 pub still-ready : {mark : Journal} {journal : List ℕ} (r : Record) {begun : List ℕ} → Ready journal mark → length (r .printers) ≡ 8 → begun ≡ begunOf mark r journal → Ready begun mark
 still-ready {mark} {journal} r ready eight first = rw first (begun-ready mark r journal eight ready)
 
-pub eight-held : {printers : List Printer} (words : List ℕ) → printers ≡ printersIn words → length printers ≡ 8
-eight-held words e = ap (λ (l : List Printer). length l) e ∙ length-printers words
+-- ---- with no slots
+
+no-slots : (journal : List ℕ) → length journal < 256 → eqb (slotsOf journal) 0 ≡ true
+no-slots journal short = eq-eqb (slotsOf journal) 0 (omega (arith, short))
+
+pub not-begun : (mark : Journal) (r : Record) (journal : List ℕ) → length journal < 256 → begunOf mark r journal ≡ journal
+not-begun mark r journal short = rw (no-slots journal short)
+
+pub not-ended : (mark : Journal) (old : Saved) (journal : List ℕ) → length journal < 256 → endedOf mark old journal ≡ ringOf mark journal
+not-ended mark old journal short = rw (no-slots journal short)

@@ -1,31 +1,32 @@
 // One step with its record, on the parts that a run holds. The record is begun before the tick with all that it keeps of the state, and ended with what the step
 // overwrites once that is decided: so no old value is kept aside while the step works.
 ghost use mathlib.Core.Path.{_≡_};
+ghost use lib.ListN.{length};
+ghost use Rattle.tlb.specs.Words.{rowsIn};
 ghost use Rattle.printer.specs.Saved.{savedPaperOf};
 ghost use Rattle.held.specs.Board.{printersIn, Told};
+ghost use Rattle.decide.specs.Range.{Within};
+ghost use Rattle.journal.specs.Journal.{ringOf, Ready, heldRecord, begunOf, endedOf};
+ghost use Rattle.step.specs.Note.{savedOf};
 ghost use Rattle.turn.specs.Turn.{Fit, TurnIs};
 use decide::effect::Effect;
 use decide::lent::sizes;
 use decide::step::decide;
 use held::Held;
-use held::unpacked;
+use held::core::core_in;
+use held::line::saved_paper;
+use journal::SLOT;
 use journal::begun;
 use journal::ended;
 use printer::saved::SavedPaper;
-use printer::saved::saved_paper;
-use record::Record;
-use record::Saved;
-use state::machine::Core;
 use state::machine::Journal;
 use state::machine::Settings;
 use step::apply::applied;
 use step::saved::saved;
 use step::tick::ticked;
-use tlb::Row;
 
 // A row of the table is the caller's to set, where the effect says so.
 pub struct Turned {
-    pub core: Core,
     pub held: Held,
     pub mark: Journal,
     pub effect: Effect,
@@ -37,18 +38,66 @@ fn kept_paper(held: Held, words: &[u32; 40], paper: &[u8]) -> SavedPaper
     ensures { λ r. ⌜ r ≡ savedPaperOf (printersIn (now (words .entry))) (now (paper .entry)) ⌝ }
 {
     if held.busy {
-        return saved_paper(unpacked(words), paper);
+        return saved_paper(words, paper);
     }
     let bytes = [0u8; 8];
     SavedPaper { mask: 0, bytes }
 }
 
+// With no slots, nothing of a record is worked out.
+fn begin(
+    journal: &mut [u8],
+    mark: Journal,
+    core: &[u32; 12],
+    held: Held,
+    words: &[u32; 40],
+    paper: &[u8],
+)
+    requires { ⌜ Ready (now journal) mark ⌝ }
+    requires { ⌜ length (now core) ≡ 12 ⌝ }
+    requires { ⌜ Told held (now words) ⌝ }
+    ensures { λ _. ⌜
+        now (journal .exit)
+        ≡ begunOf mark
+        (heldRecord (now (core .entry)) (held .clock .timer) (held .pending) (savedPaperOf (printersIn (now (words .entry))) (now (paper .entry))) (now (words .entry)))
+        (now (journal .entry))
+        ⌝ }
+{
+    if journal.len() < SLOT {
+        return;
+    }
+    let kept = kept_paper(held, words, paper);
+    let clock = held.clock;
+    begun(journal, mark, core, clock.timer, held.pending, kept, words);
+}
+
+fn end(
+    journal: &mut [u8],
+    mark: Journal,
+    effect: Effect,
+    regs: &[u32; 32],
+    rows: &[u32; 32],
+    ram: &[u8],
+) -> Journal
+    requires { ⌜ Ready (now journal) mark ⌝ }
+    requires { ⌜ Within (length (now ram)) 16 effect ⌝ }
+    ensures { λ m. ⌜
+        ringOf m (now (journal .exit))
+        ≡ endedOf mark (savedOf effect (now (regs .entry)) (rowsIn (now (rows .entry))) (now (ram .entry))) (now (journal .entry))
+        ⌝ }
+{
+    if journal.len() < SLOT {
+        return mark;
+    }
+    ended(journal, mark, saved(effect, regs, rows, ram))
+}
+
 pub fn turn(
-    core: Core,
+    core: &mut [u32; 12],
     held: Held,
     settings: Settings,
     words: &mut [u32; 40],
-    t: [Row; 16],
+    rows: &[u32; 32],
     regs: &mut [u32; 32],
     execution: &[u8],
     bootstrap: &[u8],
@@ -57,36 +106,22 @@ pub fn turn(
     journal: &mut [u8],
     mark: Journal,
 ) -> Turned
-    requires { ⌜ Fit (now execution) (now bootstrap) held (now words) (now ram) (now paper) (now journal) mark ⌝ }
+    requires { ⌜ Fit (now execution) (now bootstrap) (now core) held (now words) (now ram) (now paper) (now journal) mark ⌝ }
     ensures { λ r. ⌜
-        TurnIs (now (execution .entry)) (now (bootstrap .entry)) core held settings (now (words .entry)) t
+        TurnIs (now (execution .entry)) (now (bootstrap .entry)) (now (core .entry)) held settings (now (words .entry)) (now (rows .entry))
         (now (regs .entry)) (now (ram .entry)) (now (paper .entry)) (now (journal .entry)) mark r
-        (now (words .exit)) (now (regs .exit)) (now (ram .exit)) (now (paper .exit)) (now (journal .exit))
+        (now (core .exit)) (now (words .exit)) (now (regs .exit)) (now (ram .exit)) (now (paper .exit)) (now (journal .exit))
         ⌝ }
 {
-    let clock = held.clock;
-    let kept = kept_paper(held, words, paper);
-    let r = Record {
-        core,
-        timer: clock.timer,
-        pending: held.pending,
-        paper: kept,
-        saved: Saved::Nothing,
-        printers: unpacked(words),
-    };
-    begun(journal, mark, r);
-    let beaten = ticked(core, held, settings, words, paper);
-    let now = beaten.core;
-    let after = beaten.held;
-    let d = decide(now, regs, t, execution, bootstrap, ram);
+    begin(journal, mark, core, held, words, paper);
+    let after = ticked(core, held, settings, words, paper);
+    let now = core_in(core);
+    let d = decide(now, regs, rows, execution, bootstrap, ram);
     let effect = d.effect;
-    let next = ended(journal, mark, saved(effect, regs, t, ram));
+    let next = end(journal, mark, effect, regs, rows, ram);
     let lent = sizes(execution, bootstrap, ram);
-    let done = applied(now, after, settings, words, d, lent, regs, ram);
-    let last = done.core;
-    let left = done.held;
+    let left = applied(core, after, settings, words, d, lent, regs, ram);
     Turned {
-        core: last,
         held: left,
         mark: next,
         effect,

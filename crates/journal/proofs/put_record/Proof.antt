@@ -1,13 +1,16 @@
 -- `journal::put_record` meets its contract: what the part that was lent leaves in the whole is `put` of the ring.
-use lib.ListN.{length, length-map}
-use borrow.Rule.Slice.PartMut.{putMid}
 use Prim.Native.Nat.{ℕ, _+_, _-_, _*_}
 use mathlib.Core.Path.{_≡_, sym, ap, _∙_}
 use lib.ListN.{length}
+use borrow.Author.Needs.{needs}
+use borrow.Rule.Slice.PartMut.{putMid}
 use Rattle.ring.proofs.Slots.{put-part}
+use Rattle.record.specs.declared.Record.{Record}
 use Rattle.record.specs.Layout.{recordBytes}
 use Rattle.record.proofs.Stored.{length-bytes}
-use borrow.Author.Needs.{needs}
+use Rattle.held.proofs.Board.{length-printers}
+use Rattle.journal.specs.Journal.{heldRecord}
+use Rattle.journal.proofs.HeldRecord.{laid-held}
 use Rattle.journal.proofs.put_record.Statement.{statement}
 use Rattle.journal.proofs.put_record.Tie as tie
 
@@ -36,9 +39,13 @@ returns : tie.Need-returns
 returns c =
     let start = c .before .before .before .before .before in
     let at : ℕ = 256 * start .args .slot in
-    let long : length (recordBytes (start .args .r)) ≡ 256 = length-bytes (start .args .r) (simp length-map at (start .good .1 .1 .0 .1 .1 .1 .1 .1 .1 .1 .0 .1 .0 .1)) in
-    ap (putMid at (at + 256 - at) (start .args .journal .now)) (c .before .before .encode .ensures)
-    ∙ put-part (start .args .journal .now) at (at + 256) (recordBytes (start .args .r)) (ap (λ (n : ℕ). at + n) (sym long))
+    let core = start .args .core .now in
+    let words = start .args .words .now in
+    let r : Record = heldRecord core (start .args .timer) (start .args .pending) (start .args .paper) words in
+    let same = laid-held core (start .args .timer) (start .args .pending) (start .args .paper) words (start .pre .1 .0) (start .pre .1 .1) in
+    let long : length (recordBytes r) ≡ 256 = length-bytes r (length-printers words) in
+    ap (putMid at (at + 256 - at) (start .args .journal .now)) (c .before .before .encode .ensures ∙ same)
+    ∙ put-part (start .args .journal .now) at (at + 256) (recordBytes r) (ap (λ (n : ℕ). at + n) (sym long))
 
 pub put-record-spec : {M : Type 1} → statement M
 put-record-spec =

@@ -6,8 +6,18 @@ use Rattle.run.proofs.closed.Tie as tie
 unpacked-requires : tie.Need-unpacked-requires
 unpacked-requires c κs = search needs
 
+core-in-requires : tie.Need-core-in-requires
+core-in-requires c κs = search needs
+
+rows-in-requires : tie.Need-rows-in-requires
+rows-in-requires c κs = search needs
+
 returns : tie.Need-returns
-returns c = cc
+returns c =
+    let rows = c .before in
+    let core = rows .before .before .before in
+    let unpacked = core .before .before .before .before in
+    rw (rows .rows-in .ensures, core .core-in .ensures, unpacked .unpacked .ensures)
 
 pub closed-spec : {M : Type 1} → statement M
-closed-spec = tie.close (tie.spec unpacked-requires returns)
+closed-spec = tie.close (tie.spec unpacked-requires core-in-requires rows-in-requires returns)

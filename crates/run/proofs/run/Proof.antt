@@ -1,4 +1,4 @@
--- `run::run` meets its contract: the parts are opened, the loop runs on them, and they are closed again. The length of the printers is in what owning the machine tells.
+-- `run::run` meets its contract: the parts are opened, the loop runs on them, and they are closed again. The lengths of the printers and of the table are in what owning the machine tells.
 use mathlib.Core.Path.{_≡_}
 use lib.ListN.{length, length-map}
 use Rattle.run.proofs.Ends.{opened-ready, spun-is}
@@ -9,6 +9,9 @@ use Rattle.run.proofs.run.Tie as tie
 eight : (c : tie.Start) → length (c .args .machine .board .line .printers) ≡ 8
 eight c = simp length-map at (c .good .0 .1 .1 .1 .0 .1 .1 .1 .1 .0 .1 .1 .0 .1 .0 .1)
 
+sixteen : (c : tie.Start) → length (c .args .machine .cpu .tlb) ≡ 16
+sixteen c = simp length-map at (c .good .0 .1 .1 .0 .1 .1 .1 .1 .0 .1 .0 .1)
+
 opened-requires : tie.Need-opened-requires
 opened-requires c κs = search needs
 
@@ -16,7 +19,7 @@ spin-requires : tie.Need-spin-requires
 spin-requires c κs =
     let start = c .before .before .before .before .before .before .before .before .before .before .before in
     let a = start .args in
-    opened-ready (a .machine) (eight start) (a .execution .now) (a .bootstrap .now) (a .ram .now) (a .paper .now) (a .journal .now) (c .before .before .before .opened .ensures) (start .pre)
+    opened-ready (a .machine) (eight start) (sixteen start) (a .execution .now) (a .bootstrap .now) (a .ram .now) (a .paper .now) (a .journal .now) (c .before .before .before .opened .ensures) (start .pre)
 
 closed-requires : tie.Need-closed-requires
 closed-requires c κs = search needs
@@ -36,7 +39,7 @@ returns c =
     let opened = spun .before .before .before .before in
     let start = opened .before .before .before .before .before .before .before .before in
     let a = start .args in
-    spun-is (a .machine) (eight start) (a .execution .now) (a .bootstrap .now) (a .budget) (a .stop) (a .ram .now) (a .paper .now) (a .journal .now)
+    spun-is (a .machine) (eight start) (sixteen start) (a .execution .now) (a .bootstrap .now) (a .budget) (a .stop) (a .ram .now) (a .paper .now) (a .journal .now)
     (spun .spin .result) (opened .opened .ensures) (spun .spin .ensures) (c .closed .ensures)
 
 pub run-spec : {M : Type 1} → statement M

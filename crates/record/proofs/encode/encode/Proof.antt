@@ -1,52 +1,77 @@
--- `record::encode::encode` meets its contract. The length of the printers in r is in what owning r tells, `start .good`.
+-- `record::encode::encode` meets its contract: the five parts stored one after the other, by `laid`.
 use borrow.Author.Needs.{needs}
-use mathlib.Core.Path.{_≡_}
-use lib.ListN.{length, length-map}
-use Rattle.record.proofs.Stored.{stored}
+use mathlib.Core.Path.{refl}
+use Rattle.record.proofs.Laid.{laid}
 use Rattle.record.proofs.encode.encode.Statement.{statement}
 use Rattle.record.proofs.encode.encode.Tie as tie
-
-core-words-requires : tie.Need-core-words-requires
-core-words-requires c κs = search needs
 
 small-words-requires : tie.Need-small-words-requires
 small-words-requires c κs = search needs
 
-saved-words-requires : tie.Need-saved-words-requires
-saved-words-requires c κs = search needs
+slice-aggregate-put-words : tie.Need-slice-aggregate-put-words
+slice-aggregate-put-words c = search needs
 
-put-front-requires : tie.Need-put-front-requires
-put-front-requires c κs = search needs
+put-words-requires : tie.Need-put-words-requires
+put-words-requires c κs = search needs
 
-put-back-requires : tie.Need-put-back-requires
-put-back-requires c κs = search needs
+slice-aggregate-put-words-2 : tie.Need-slice-aggregate-put-words-2
+slice-aggregate-put-words-2 c = search needs
+
+put-words-requires-2 : tie.Need-put-words-requires-2
+put-words-requires-2 c κs = search needs
+
+slice-aggregate-put-words-3 : tie.Need-slice-aggregate-put-words-3
+slice-aggregate-put-words-3 c = search needs
+
+put-words-requires-3 : tie.Need-put-words-requires-3
+put-words-requires-3 c κs = search needs
+
+slice-aggregate-put-words-4 : tie.Need-slice-aggregate-put-words-4
+slice-aggregate-put-words-4 c = search needs
+
+put-words-requires-4 : tie.Need-put-words-requires-4
+put-words-requires-4 c κs = search needs
+
+slice-aggregate-put-words-5 : tie.Need-slice-aggregate-put-words-5
+slice-aggregate-put-words-5 c = search needs
+
+put-words-requires-5 : tie.Need-put-words-requires-5
+put-words-requires-5 c κs = search needs
 
 same-length : tie.Need-same-length
 same-length c = search needs
 
 returns : tie.Need-returns
 returns c =
-    let backed = c .before .before in
-    let fronted = backed .before .before .before .before in
-    let parts = fronted .before .before in
-    let start = parts .before .before .before .before .before .before .before in
-    let r = start .args .r in
-    let eight : length (r .printers) ≡ 8 = simp length-map at (start .good .0 .1 .1 .1 .1 .1 .1 .1 .0 .1 .0 .1) in
-    stored r eight (start .args .slot .now) (start .pre)
-    (parts .before .before .core-words .ensures)
-    (parts .before .small-words .ensures)
-    (parts .saved-words .ensures)
-    (fronted .put-front .ensures)
-    (backed .put-back .ensures)
+    let fifth = c .before .before in
+    let fourth = fifth .before .before .before .before .before in
+    let third = fourth .before .before .before .before .before .before in
+    let second = third .before .before .before .before .before in
+    let first = second .before .before .before .before .before in
+    let made = first .before .before .before .before in
+    let start = made .before .before .before in
+    laid (start .args .core .now) _ (start .args .words .now) (start .args .slot .now) (start .pre .1 .0) refl (start .pre .1 .1) (start .pre .0)
+    (made .small-words .ensures)
+    (first .put-words .ensures)
+    (second .put-words2 .ensures)
+    (third .put-words3 .ensures)
+    (fourth .put-words4 .ensures)
+    (fifth .put-words5 .ensures)
 
 pub encode-spec : {M : Type 1} → statement M
 encode-spec =
     tie.close
     (tie.spec
-    core-words-requires
     small-words-requires
-    saved-words-requires
-    put-front-requires
-    put-back-requires
+    slice-aggregate-put-words
+    put-words-requires
+    slice-aggregate-put-words-2
+    put-words-requires-2
+    slice-aggregate-put-words-3
+    put-words-requires-3
+    slice-aggregate-put-words-4
+    put-words-requires-4
+    slice-aggregate-put-words-5
+    put-words-requires-5
     same-length
     returns)

@@ -5,36 +5,38 @@ use Rattle.step.proofs.apply.applied.Statement.{statement}
 use Rattle.step.proofs.apply.applied.Tie as tie
 
 write-back-requires : tie.Need-write-back-requires
-write-back-requires c κs = search needs
+write-back-requires c κs = c .before .before .before .before .before .pre .0
 
 held-after-requires : tie.Need-held-after-requires
-held-after-requires c κs = search needs
+held-after-requires c κs = c .before .before .before .before .before .before .before .before .before .pre .1
 
-core-after-requires : tie.Need-core-after-requires
-core-after-requires c κs = search needs
+move-core-requires : tie.Need-move-core-requires
+move-core-requires c κs = search needs
+
+core-in-requires : tie.Need-core-in-requires
+core-in-requires c κs = search needs
 
 with-pc-requires : tie.Need-with-pc-requires
 with-pc-requires c κs = search needs
+
+put-core-requires : tie.Need-put-core-requires
+put-core-requires c κs = search needs
 
 same-length : tie.Need-same-length
 same-length c = search needs
 
 returns : tie.Need-returns
 returns c =
-    let cored = c .before in
-    let held = cored .before in
+    let paced = c .before .before in
+    let read = paced .before in
+    let cored = read .before .before in
+    let held = cored .before .before in
     let wrote = held .before .before .before .before in
-    let a = wrote .before .before .before .before .before .before .args in
-    applies-held (a .settings) (a .sizes) (a .d) (a .core) (a .held) (a .words .now) (a .regs .now) (a .ram .now)
-    (wrote .write-back .ensures) (held .held-after .ensures) (cored .core-after .ensures) (c .with-pc .ensures)
+    let start = wrote .before .before .before .before .before .before in
+    let a = start .args in
+    applies-held (a .settings) (a .sizes) (a .d) (a .core .now) _ (a .held) (a .words .now) (a .regs .now) (a .ram .now)
+    (wrote .write-back .ensures) (held .held-after .ensures) (cored .move-core .ensures) (read .core-in .ensures) (paced .with-pc .ensures) (c .put-core .ensures)
 
 pub applied-spec : {M : Type 1} → statement M
 applied-spec =
-    tie.close
-    (tie.spec
-    write-back-requires
-    held-after-requires
-    core-after-requires
-    with-pc-requires
-    same-length
-    returns)
+    tie.close (tie.spec write-back-requires held-after-requires move-core-requires core-in-requires with-pc-requires put-core-requires same-length returns)

@@ -8,7 +8,7 @@ enum-known-effect : tie.Need-enum-known-effect
 enum-known-effect c = search needs
 
 store-device-requires : tie.Need-store-device-requires
-store-device-requires c κs = search needs
+store-device-requires c κs = c .before .before .before .before .pre
 
 enum-told : tie.Need-enum-told
 enum-told c = search needs

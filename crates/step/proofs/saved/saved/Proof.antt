@@ -19,9 +19,6 @@ register-at-requires-2 c κs = (rw (c .before .effect2 .given .1) at (c .before 
 enum-known-effect-3 : tie.Need-enum-known-effect-3
 enum-known-effect-3 c = search needs
 
-cast-t12 : tie.Need-cast-t12
-cast-t12 c = omega (arith, rw (c .before .effect3 .given .1) at (c .before .before .before .before .pre))
-
 row-at-requires : tie.Need-row-at-requires
 row-at-requires c κs = rw (c .before .effect3 .given .1) at (c .before .before .before .before .pre)
 
@@ -91,7 +88,6 @@ saved-spec =
     enum-known-effect-2
     register-at-requires-2
     enum-known-effect-3
-    cast-t12
     row-at-requires
     enum-known-effect-4
     cast-load-word

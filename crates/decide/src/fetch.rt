@@ -1,0 +1,54 @@
+// The word at PC, or the exception that its fetch is.
+ghost use mathlib.Core.Path.{_≡_};
+ghost use Rattle.tlb.specs.Words.{rowsIn};
+ghost use Rattle.decide.specs.Lent.{lentOf, Whole};
+ghost use Rattle.decide.specs.Fetch.{fetchOf};
+use crate::access::reached;
+use crate::lent::sizes;
+use crate::lent::word_in;
+use board::places::RAM;
+use reach::Reached;
+use reach::access::Kind;
+use reach::access::Width;
+use reach::plain::plain;
+use state::machine::Core;
+
+pub enum Fetched {
+    Word(u32),
+    Refused(u32, bool), // code, miss
+}
+
+fn fetch_slow(
+    core: Core,
+    rows: &[u32; 32],
+    execution: &[u8],
+    bootstrap: &[u8],
+    ram: &[u8],
+) -> Fetched
+    requires { ⌜ Whole (lentOf (now execution) (now bootstrap) (now ram)) ⌝ }
+    ensures { λ r. ⌜ r ≡ fetchOf core (rowsIn (now (rows .entry))) (lentOf (now (execution .entry)) (now (bootstrap .entry)) (now (ram .entry))) ⌝ }
+{
+    let lent = sizes(execution, bootstrap, ram);
+    let answer = reached(Kind::Fetch, Width::Four, core.cp0, rows, lent, core.pc);
+    match answer {
+        Reached::Lands(place) => Fetched::Word(word_in(place, execution, bootstrap, ram)),
+        Reached::Exception { miss, code } => Fetched::Refused(code, miss),
+    }
+}
+
+// The plain access first: what is aligned and in RAM with VM off is read at once.
+pub fn fetch(
+    core: Core,
+    rows: &[u32; 32],
+    execution: &[u8],
+    bootstrap: &[u8],
+    ram: &[u8],
+) -> Fetched
+    requires { ⌜ Whole (lentOf (now execution) (now bootstrap) (now ram)) ⌝ }
+    ensures { λ r. ⌜ r ≡ fetchOf core (rowsIn (now (rows .entry))) (lentOf (now (execution .entry)) (now (bootstrap .entry)) (now (ram .entry))) ⌝ }
+{
+    if plain(core.cp0.status, Width::Four, ram.len() as u32, core.pc) {
+        return Fetched::Word(memory::load_word(ram, (core.pc - RAM) as usize));
+    }
+    fetch_slow(core, rows, execution, bootstrap, ram)
+}

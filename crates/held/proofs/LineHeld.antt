@@ -1,0 +1,80 @@
+-- The moves of the printers' line on the words that a run holds, over plain values: a printer that was put back is the one that changed.
+use Prim.Native.Nat.{ℕ, _+_, _*_, _<_}
+use mathlib.Core.Path.{_≡_, refl, sym, ap, _∙_}
+use mathlib.Core.Bool.{Bool, true, false, cond}
+use mathlib.Core.List.{List}
+use borrow.Author.Tests.{ne-eqb}
+use lib.ListN.{length, getD, set}
+use lib.Seq.{sets, set-getD}
+use Rattle.word.specs.Map.{withBit}
+use Rattle.printer.specs.Tick.{printing, noPrinter, roomOf, isBusy, finishes, printerTicked, paperTicked, tickOne, OneIs}
+use Rattle.printer.specs.Command.{isIllegal, commandedOf, withData, commandOf, dataOf}
+use Rattle.printer.specs.declared.Printer.{Printer}
+use Rattle.printer.specs.declared.tick.One.{One}
+use Rattle.state.specs.Layout.{printerWords}
+use Rattle.held.specs.Board.{printerIn, printersIn}
+use Rattle.held.specs.Line.{OneHeldIs, takesIn, CommandIs, DataIs}
+use Rattle.held.proofs.Stored.{stored-printer, stored-forty, printer-at}
+
+module _ (words : List ℕ) (n : ℕ) (few : n < 8) (forty : length words ≡ 40) where
+  same : set (printersIn words) n (printerIn words n) ≡ printersIn words
+  same = ap (set (printersIn words) n) (sym (printer-at words n few)) ∙ set-getD (printersIn words) n noPrinter
+
+  -- ---- the tick
+
+  pub still : (paper : List ℕ) {p : Printer} → p ≡ printerIn words n → (p .status ≡ 3 → ⊥) → OneHeldIs n words paper false words paper
+  unfolding printerTicked paperTicked
+  still paper {p} is idle =
+      let off : isBusy (printerIn words n) ≡ false = ap isBusy (sym is) ∙ ne-eqb (p .status) 3 idle in
+      record { printers-are = rw off (sym same); finished-is = rw off; paper-is = rw off; forty = forty }
+
+  pub worked : (paper : List ℕ) {p : Printer} {one : One} {words′ paper′ : List ℕ} → p ≡ printerIn words n → OneIs n p paper one paper′ →
+      words′ ≡ sets words (5 * n) (printerWords (one .printer)) → OneHeldIs n words paper (one .finished) words′ paper′
+  worked paper {p} {one} is ticked put =
+      record {
+        printers-are = ap printersIn put ∙ stored-printer words n (one .printer) forty few ∙ ap (set (printersIn words) n) (ticked .printer-is ∙ ap (printerTicked (roomOf paper)) is);
+        finished-is = ticked .finished-is ∙ ap finishes is;
+        paper-is = ticked .paper-is ∙ ap (λ (q : Printer). paperTicked n q paper) is;
+        forty = ap (λ (l : List ℕ). length l) put ∙ stored-forty words n (one .printer) forty few;
+      }
+
+  pub tick-held : {paper words′ paper′ : List ℕ} {finished : Bool} (map : ℕ) {map′ : ℕ} → OneHeldIs n words paper finished words′ paper′ →
+      map′ ≡ cond finished (withBit n true map) map →
+      printing (printersIn words′) map′ paper′ ≡ tickOne n (printing (printersIn words) map paper)
+  unfolding tickOne
+  tick-held map one turned = rw (turned, one .printers-are, one .finished-is, one .paper-is, printer-at words n few)
+
+  -- ---- writes
+
+  module _ (installed : ℕ) where
+    takes : {p : Printer} {b : Bool} → p ≡ printerIn words n → takesIn installed n p ≡ b → takesIn installed n (getD (printersIn words) n noPrinter) ≡ b
+    takes is e = ap (takesIn installed n) (printer-at words n few ∙ sym is) ∙ e
+
+    pub not-commanded : (delay word pending : ℕ) {p : Printer} → p ≡ printerIn words n → takesIn installed n p ≡ false →
+        CommandIs installed delay n word words pending pending words
+    unfolding commandOf
+    not-commanded delay word pending is off = record { line-is = rw (takes is off); forty = forty }
+
+    pub commanded-held : (delay word pending : ℕ) {p next : Printer} {map : ℕ} {words′ : List ℕ} → p ≡ printerIn words n → takesIn installed n p ≡ true →
+        next ≡ commandedOf delay word p → words′ ≡ sets words (5 * n) (printerWords next) → map ≡ withBit n (isIllegal word) pending →
+        CommandIs installed delay n word words pending map words′
+    unfolding commandOf
+    commanded-held delay word pending {next = next} is on made put turned =
+        record {
+          line-is =
+              rw (takes is on, turned, put, stored-printer words n next forty few, made, is, printer-at words n few);
+          forty = ap (λ (l : List ℕ). length l) put ∙ stored-forty words n next forty few;
+        }
+
+    pub not-written : (word : ℕ) {p : Printer} → p ≡ printerIn words n → takesIn installed n p ≡ false → DataIs installed n word words words
+    unfolding dataOf
+    not-written word is off = record { line-is = λ pending. rw (takes is off); forty = forty }
+
+    pub written-held : (word : ℕ) {p : Printer} {words′ : List ℕ} → p ≡ printerIn words n → takesIn installed n p ≡ true →
+        words′ ≡ sets words (5 * n) (printerWords (withData word p)) → DataIs installed n word words words′
+    unfolding dataOf
+    written-held word {p} is on put =
+        record {
+          line-is = λ pending. rw (takes is on, put, stored-printer words n (withData word p) forty few, is, printer-at words n few);
+          forty = ap (λ (l : List ℕ). length l) put ∙ stored-forty words n (withData word p) forty few;
+        }

@@ -1,0 +1,121 @@
+// The printers' line where a run holds it: each printer is looked at and put back at its place among the forty words, and those that stand still are not written.
+ghost use mathlib.Core.Path.{_≡_};
+ghost use Prim.Native.Nat.{_<_, _≤_};
+ghost use lib.ListN.{length};
+ghost use Rattle.printer.specs.Tick.{anyBusy};
+ghost use Rattle.printer.specs.Saved.{savedPaperOf};
+ghost use Rattle.held.specs.Board.{printersIn};
+ghost use Rattle.held.specs.Line.{OneHeldIs, TicksIs, CommandIs, DataIs};
+use crate::printer_in;
+use crate::put_printer;
+use printer::BUSY;
+use printer::Printer;
+use printer::command::commanded;
+use printer::command::is_illegal;
+use printer::saved::SavedPaper;
+use printer::saved::saved_byte;
+use printer::tick::pending_on;
+use printer::tick::prints;
+use printer::tick::tick_one;
+use word::map::has_bit;
+use word::map::with_bit;
+
+// The tick of printer `n`: whether it finished.
+fn tick_at(words: &mut [u32; 40], n: usize, paper: &mut [u8]) -> bool
+    requires { ⌜ (n < 8) × (length (now words) ≡ 40) × (length (now paper) ≤ 65536) ⌝ }
+    ensures { λ r. ⌜ OneHeldIs n (now (words .entry)) (now (paper .entry)) r (now (words .exit)) (now (paper .exit)) ⌝ }
+{
+    let p = printer_in(words, n);
+    if p.status != BUSY {
+        return false;
+    }
+    let one = tick_one(n, p, paper);
+    let next = one.printer;
+    put_printer(next, words, 5 * n);
+    one.finished
+}
+
+// The tick of all eight: the pending map after it.
+pub fn tick(words: &mut [u32; 40], pending: u32, paper: &mut [u8]) -> u32
+    requires { ⌜ (length (now words) ≡ 40) × (length (now paper) ≤ 65536) ⌝ }
+    ensures { λ r. ⌜ TicksIs (now (words .entry)) pending (now (paper .entry)) r (now (words .exit)) (now (paper .exit)) ⌝ }
+{
+    let mut map = pending;
+    for n in 0..8 {
+        let finished = tick_at(words, n, paper);
+        map = pending_on(n, finished, map);
+    }
+    map
+}
+
+pub fn busy_in(words: &[u32; 40]) -> bool
+    ensures { λ r. ⌜ r ≡ anyBusy (printersIn (now (words .entry))) ⌝ }
+{
+    let mut some = false;
+    for n in 0..8 {
+        some = some | (words[5 * n] == BUSY);
+    }
+    some
+}
+
+fn takes_writes(p: Printer, installed: u32, n: usize) -> bool
+    requires { ⌜ n < 8 ⌝ }
+    ensures { λ r. ⌜ r ≡ Rattle.held.specs.Line.takesIn installed n p ⌝ }
+{
+    has_bit(n, installed) & !(p.status == BUSY)
+}
+
+// A write to COMMAND: the pending map after it.
+pub fn command(
+    words: &mut [u32; 40],
+    pending: u32,
+    installed: u32,
+    delay: u32,
+    n: usize,
+    word: u32,
+) -> u32
+    requires { ⌜ (n < 8) × (length (now words) ≡ 40) ⌝ }
+    ensures { λ r. ⌜ CommandIs installed delay n word (now (words .entry)) pending r (now (words .exit)) ⌝ }
+{
+    let p = printer_in(words, n);
+    if !takes_writes(p, installed, n) {
+        return pending;
+    }
+    let next = commanded(p, word, delay);
+    put_printer(next, words, 5 * n);
+    with_bit(n, is_illegal(word), pending)
+}
+
+// A write to DATA0.
+pub fn data(words: &mut [u32; 40], installed: u32, n: usize, word: u32)
+    requires { ⌜ (n < 8) × (length (now words) ≡ 40) ⌝ }
+    ensures { λ _. ⌜ DataIs installed n word (now (words .entry)) (now (words .exit)) ⌝ }
+{
+    let p = printer_in(words, n);
+    if !takes_writes(p, installed, n) {
+        return;
+    }
+    let next = Printer {
+        status: p.status,
+        command: p.command,
+        data0: word,
+        left: p.left,
+        count: p.count,
+    };
+    put_printer(next, words, 5 * n);
+}
+
+// What a record keeps of paper.
+pub fn saved_paper(words: &[u32; 40], paper: &[u8]) -> SavedPaper
+    ensures { λ r. ⌜ r ≡ savedPaperOf (printersIn (now (words .entry))) (now (paper .entry)) ⌝ }
+{
+    let room = paper.len() / 8;
+    let mut mask: u32 = 0;
+    let mut bytes = [0u8; 8];
+    for n in 0..8 {
+        let p = printer_in(words, n);
+        mask = with_bit(n, prints(room, p), mask);
+        bytes[n] = saved_byte(n, p, paper);
+    }
+    SavedPaper { mask, bytes }
+}

@@ -1,0 +1,35 @@
+-- `turn::end` meets its contract.
+use mathlib.Core.Path.{sym, ap, _∙_}
+use Rattle.record.specs.declared.Saved.{Saved}
+use Rattle.tlb.specs.Words.{rowsIn}
+use Rattle.step.specs.Note.{savedOf}
+use Rattle.journal.specs.Journal.{endedOf}
+use Rattle.turn.proofs.Steps.{not-ended}
+use borrow.Author.Needs.{needs}
+use Rattle.turn.proofs.end.Statement.{statement}
+use Rattle.turn.proofs.end.Tie as tie
+
+returns : tie.Need-returns
+returns c =
+    let a = c .before .before .before .args in
+    sym (not-ended (a .mark) (savedOf (a .effect) (a .regs .now) (rowsIn (a .rows .now)) (a .ram .now)) (a .journal .now) (c .if1 .taken))
+
+saved-requires : tie.Need-saved-requires
+saved-requires c κs = c .before .before .before .before .pre .1
+
+ended-requires : tie.Need-ended-requires
+ended-requires c κs = c .before .before .before .before .before .pre .0
+
+same-length : tie.Need-same-length
+same-length c = search needs
+
+returns-2 : tie.Need-returns-2
+returns-2 c =
+    let ended = c .before .before in
+    let saved = ended .before in
+    let a = saved .before .before .before .before .before .args in
+    ended .ended .ensures ∙ ap (λ (s : Saved). endedOf (a .mark) s (a .journal .now)) (saved .saved .ensures)
+
+pub end-spec : {M : Type 1} → statement M
+end-spec =
+    tie.close (tie.spec returns saved-requires ended-requires same-length returns-2)
