@@ -10,3 +10,9 @@ pub mod RunLaws
 pub mod RunSteps
 pub mod RunStart
 pub mod RunKeeps
+pub mod Backing
+pub mod BackTheorems
+pub mod BackKeeps
+pub mod Boot
+pub mod Carried
+pub mod Demand3

@@ -4,11 +4,9 @@ use mathlib.Core.Path.{_≡_, refl, sym, ap, subst, _∙_}
 use mathlib.Core.Bool.{true, not}
 use mathlib.Core.List.{List}
 use native.Mathlib.Omega.{arith}
-use borrow.Author.Tests.{leb-true}
 use lib.Dec.{eqb, leb}
 use lib.ListN.{length}
 use Rattle.word.specs.Lists.{Below}
-use Rattle.word.proofs.Cond.{both}
 use Rattle.ring.specs.Slots.{Ring, Sound}
 use Rattle.ring.specs.Run.{Config, advance}
 use Rattle.ring.proofs.Slots.{sound-written, length-written}
@@ -17,6 +15,7 @@ use Rattle.record.proofs.Stored.{length-bytes}
 use Rattle.journal.specs.Journal.{slotsOf}
 use Rattle.state.specs.Layout.{bytesOf, machineOf, WellTyped}
 use Rattle.state.specs.declared.machine.Journal.{Journal}
+use Rattle.state.proofs.RoundTrip.{decode-encode}
 use Rattle.rules.specs.Rules.{goodImage}
 use Rattle.rules.proofs.Good.{encoded-good}
 use Rattle.decide.specs.Lent.{Whole}
@@ -30,7 +29,7 @@ use Rattle.run.specs.Run.{forward, configOf}
 use Rattle.lavushmir.specs.Lent.{ramFits, paperFits, journalFits}
 use Rattle.lavushmir.specs.Run.{Left, machineAfter, ranOf, doneRun, runLeaves}
 use Rattle.lavushmir.proofs.RunLaws.{run-keeps}
-use Rattle.lavushmir.proofs.RunStart.{lent-whole, paper-short, ring-sound, sound-kept, image-bytes, image-mark, start-good}
+use Rattle.lavushmir.proofs.RunStart.{lent-whole, paper-short, few-slots, ring-sound, sound-kept, image-bytes, image-mark, start-good}
 use Rattle.lavushmir.proofs.RunTheorems.{runNumber, number-0, done-is}
 
 -- a record is as long as a slot
@@ -73,16 +72,20 @@ module _ (w : World) (g : Ring) (slots : ℕ) (few : slots < 2 ^ 32) (good : Goo
   abbrev mark : Journal
   mark = record { «on_hand» = g .hand; «next_slot» = g .next }
 
-  end-typed : WellTyped (machineIn w mark)
+  pub end-typed : WellTyped (machineIn w mark)
   end-typed =
       let hand : g .hand < 2 ^ 32 = omega (arith, sound .most, few) in
       let next : g .next < 2 ^ 32 = omega (arith, sound .place, few) in
       good-image w mark (hand, next) good
 
-  end-bytes : Below 256 (bytesOf (machineAfter w g))
+  -- and read again
+  pub end-read : machineOf (bytesOf (machineAfter w g)) ≡ machineAfter w g
+  end-read = decode-encode (machineIn w mark) end-typed
+
+  pub end-bytes : Below 256 (bytesOf (machineAfter w g))
   end-bytes = image-bytes (machineIn w mark) end-typed
 
-  end-good : slots ≡ length (g .bytes) / 256 → goodImage (bytesOf (machineAfter w g)) (length (w .paper)) (length (g .bytes)) ≡ true
+  pub end-good : slots ≡ length (g .bytes) / 256 → goodImage (bytesOf (machineAfter w g)) (length (w .paper)) (length (g .bytes)) ≡ true
   end-good e =
       encoded-good (machineIn w mark) (length (w .paper)) (length (g .bytes)) end-typed
       ∙ good-keeps w mark (length (g .bytes)) (rw (← e) (sound-kept 256 slots g sound)) good
@@ -126,11 +129,8 @@ module _ (image execution bootstrap ram paper journal : List ℕ) (budget stop :
         (fine-on roms (slotsOf journal) (length ram) (length paper) (length journal) execution-are bootstrap-are short) budget (not (eqb stop 0))
         (configOf roms (machineOf image) ram paper journal) start
 
-    few-slots : slotsOf journal < 2 ^ 32
-    few-slots =
-        let t = number-0 image execution bootstrap ram paper journal budget stop .0 number in
-        let most = leb-true (length journal) 16777216 (both (leb (length journal) 16777216) _ (t .1 .1 .1 .0) .0) in
-        omega (arith, most)
+    few : slotsOf journal < 2 ^ 32
+    few = few-slots journal (number-0 image execution bootstrap ram paper journal budget stop .0 number .1 .1 .1 .0)
 
     done-kept : RunKept (doneRun image execution bootstrap ram paper journal budget stop) ram paper journal
     unfolding doneRun
@@ -138,11 +138,11 @@ module _ (image execution bootstrap ram paper journal : List ℕ) (budget stop :
         let c = ranOf image execution bootstrap ram paper journal budget stop .config in
         let same : slotsOf journal ≡ length (c .ring .bytes) / 256 = ap (λ (k : ℕ). k / 256) (sym (fine .journal-long)) in
         record {
-          image-good = end-good (c .state) (c .ring) (slotsOf journal) few-slots (fine .good) (fine .sound) same;
+          image-good = end-good (c .state) (c .ring) (slotsOf journal) few (fine .good) (fine .sound) same;
           ram-long = fine .ram-long;
           paper-long = fine .paper-long;
           journal-long = fine .journal-long;
-          image-bytes = end-bytes (c .state) (c .ring) (slotsOf journal) few-slots (fine .good) (fine .sound);
+          image-bytes = end-bytes (c .state) (c .ring) (slotsOf journal) few (fine .good) (fine .sound);
           ram-bytes = fine .good .ram;
           paper-bytes = fine .good .paper;
         }

@@ -25,7 +25,7 @@ use Rattle.good.specs.Good.{noMark, Good}
 use Rattle.good.proofs.Belows.{each-below}
 use Rattle.good.proofs.Parts.{words, well-typed}
 use Rattle.step.specs.World.{worldIn}
-use Rattle.lavushmir.specs.Lent.{ramFits, romsFit, paperFits}
+use Rattle.lavushmir.specs.Lent.{ramFits, romsFit, paperFits, journalFits}
 
 -- ---- the lengths
 
@@ -53,6 +53,11 @@ lent-whole execution bootstrap ram r e =
 pub paper-short : (len : ℕ) → paperFits len ≡ true → len < 2 ^ 32
 paper-short len e =
     let most = leb-true len 65536 (both (leb len 65536) (eqb (len % 8) 0) e .0) in
+    omega (arith, most)
+
+pub few-slots : (journal : List ℕ) → journalFits (length journal) ≡ true → slotsOf journal < 2 ^ 32
+few-slots journal e =
+    let most = leb-true (length journal) 16777216 (both (leb (length journal) 16777216) (eqb (length journal % 256) 0) e .0) in
     omega (arith, most)
 
 -- ---- the journal's two words

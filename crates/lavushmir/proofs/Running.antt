@@ -24,7 +24,7 @@ use Rattle.lavushmir.specs.declared.lent.Test.the-variants.{Passed, Fail
 
 -- ---- what is lent
 
-abbrev passes : Test → Bool
+abbrev pub passes : Test → Bool
 passes Passed = true
 passes (Failed r) = false
 

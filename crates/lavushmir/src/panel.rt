@@ -3,7 +3,9 @@ ghost use mathlib.Core.Path.{_≡_};
 ghost use Rattle.lavushmir.specs.Answer.{packedOf};
 ghost use Rattle.lavushmir.specs.Reset.{PackedResetIs};
 ghost use Rattle.lavushmir.specs.Run.{runLeaves, PackedRunIs};
+ghost use Rattle.lavushmir.specs.Back.{backLeaves, PackedBackIs};
 use crate::answer::packed;
+use crate::backward::take_back;
 use crate::forward::run;
 use crate::reset::reset;
 
@@ -47,4 +49,20 @@ pub extern "C" fn lavushmir_run(
         budget,
         stop_at_exceptions,
     ))
+}
+
+#[no_mangle]
+pub extern "C" fn lavushmir_take_back(
+    image: &mut [u8],
+    ram: &mut [u8],
+    paper: &mut [u8],
+    journal: &[u8],
+    steps: u64,
+) -> u64
+    ensures { λ r. ⌜
+        PackedBackIs (backLeaves (now (image .entry)) (now (ram .entry)) (now (paper .entry)) (now (journal .entry)) steps)
+        r (now (image .exit)) (now (ram .exit)) (now (paper .exit))
+        ⌝ }
+{
+    packed(take_back(image, ram, paper, journal, steps))
 }

@@ -1,0 +1,6 @@
+-- Cored: a check needs no byte of RAM or paper. Turns, Answers: what the functions' proofs cite. Roms: no ROM has a part in taking back. Law: ring's laws.
+pub mod Cored
+pub mod Turns
+pub mod Answers
+pub mod Roms
+pub mod Law

@@ -1,0 +1,11 @@
+-- The states that are run forth and back: good ones, with buffers of allowed lengths beside them.
+use Prim.Native.Nat.{_≤_}
+use lib.ListN.{length}
+use Rattle.decide.specs.Lent.{Whole}
+use Rattle.step.specs.World.{World, Roms, lentIn}
+use Rattle.good.specs.Good.{Good}
+
+pub record Allowed (roms : Roms) (w : World) : Type 0 where
+  pub good : Good w
+  pub whole : Whole (lentIn roms w)
+  pub short : length (w .paper) ≤ 65536

@@ -1,0 +1,56 @@
+-- The machine of document 01 as `ring` runs it forth and back: what run has of it, and how a record is checked and undone.
+use Prim.Native.Nat.{ℕ, _≤_}
+use mathlib.Core.List.{List, []}
+use mathlib.Core.Path.{_≡_}
+use lib.ListN.{length}
+use Rattle.ring.specs.Machine.{Machine}
+use Rattle.ring.specs.Back.{Took, takeBack, done, tooFar, badRecord}
+use Rattle.record.specs.Layout.{recordOf}
+use Rattle.journal.specs.Journal.{slotsOf, Ready}
+use Rattle.state.specs.declared.machine.Machine as state
+use Rattle.step.specs.World.{Roms, romsOf}
+use Rattle.run.specs.Run.{forward, configOf}
+use Rattle.undo.specs.Undo.{View, viewOf, undoView, undoOf}
+use Rattle.undo.specs.Fit.{fitOf}
+use Rattle.back.specs.declared.Answer.{Answer}
+use Rattle.back.specs.declared.Answer.the-variants.{Done, TooFar, Bad}
+use Rattle.back.specs.declared.Taken.{Taken}
+
+abbrev pub both : Roms → Machine
+both roms =
+    record {
+      forward = forward roms;
+      undo = λ slot w. undoOf (recordOf slot) w;
+      Core = View;
+      core = viewOf;
+      fit = fitOf;
+      undoCore = λ slot v. undoView (recordOf slot) v;
+    }
+
+-- Take-back is lent no ROM: none has a part in it (proofs/Roms.antt).
+abbrev pub noRoms : Roms
+noRoms = romsOf [] []
+
+-- what a record is checked against, of the machine of an image with RAM and paper of so many bytes
+abbrev pub viewIn : state.Machine → ℕ → ℕ → View
+viewIn m ram paper = record { cpu = m .cpu; board = m .board; ram = ram; paper = paper }
+
+-- k steps of the machine of an image taken back, over the journal that is lent
+abbrev pub backOf : ℕ → state.Machine → List ℕ → List ℕ → List ℕ → Took (both noRoms)
+backOf k m ram paper journal = takeBack (both noRoms) (slotsOf journal) k (configOf noRoms m ram paper journal)
+
+abbrev pub numberOf : Answer → ℕ
+numberOf Done = done
+numberOf TooFar = tooFar
+numberOf Bad = badRecord
+
+-- what rows 1 to 5 leave of what is lent
+pub record Fits (paper journal : List ℕ) (m : state.Machine) : Type 0 where
+  pub short : length paper ≤ 65536
+  pub ready : Ready journal (m .journal)
+
+-- What taking back gives and leaves behind the references is ring's take-back. So where the answer is not Done, the machine, RAM and paper are as they were.
+abbrev pub TakeIs : ℕ → state.Machine → (ram paper journal : List ℕ) → Taken → (ram′ paper′ : List ℕ) → Type 0
+TakeIs k m ram paper journal r ram′ paper′ =
+    _≡_ {A = Took (both noRoms)} (record { config = configOf noRoms (r .machine) ram′ paper′ journal; answer = numberOf (r .answer) })
+    (backOf k m ram paper journal)
