@@ -73,13 +73,15 @@ fn newest_first(journal: &[u8], next_slot: u32, steps: u32) -> impl Iterator<Ite
 }
 
 /// The place in paper of printer k's byte: its count before the step, from the
-/// start of its eighth of the paper that is lent now.
+/// start of its eighth of the paper that is lent now. In a record that no step
+/// has written it may be the next eighth's first place; it is judged by the
+/// paper's length alone.
 fn paper_place(record: &Record, number: usize, paper_len: usize) -> u64 {
     let count = word(record, PRINTERS + number * PRINTER_WORDS + 4);
     (number * (paper_len / 8)) as u64 + u64::from(count)
 }
 
-fn printed(record: &Record) -> impl Iterator<Item = usize> {
+fn printed(record: &Record) -> impl DoubleEndedIterator<Item = usize> {
     let map = word(record, PRINTED);
     (0..8).filter(move |number| map >> number & 1 != 0)
 }
@@ -99,10 +101,11 @@ fn give_back_ram(record: &Record, ram: &mut [u8]) {
     }
 }
 
-/// In the order of the printers. It shows only in a record that no step has
-/// written, where a count at its eighth's end names the next printer's place.
+/// From printer 7 down to 0, as a tick goes from 0 up. It shows only in a record
+/// that no step has written, where a count at its eighth's end names the next
+/// printer's place: there the lower printer's byte stands.
 fn give_back_paper(record: &Record, paper: &mut [u8]) {
-    for number in printed(record) {
+    for number in printed(record).rev() {
         let place = paper_place(record, number, paper.len()) as usize;
         paper[place] = record[PAPER_BYTES + number];
     }

@@ -128,12 +128,12 @@ fn paper_places() {
     put_words(bench.record(0), 35 * 4, &[4]);
     assert_eq!(bench.take_back(1).number, 0);
     assert_eq!(bench.paper[12], 0x55);
-    // Two bytes for one place: the higher printer's stands.
+    // Two bytes for one place: the lower printer's stands.
     let mut bench = three_steps();
     put_words(bench.record(0), 14 * 4, &[4 + 8, 0x6655 << 16]);
     put_words(bench.record(0), 35 * 4, &[4]);
     assert_eq!(bench.take_back(1).number, 0);
-    assert_eq!(bench.paper[12], 0x66);
+    assert_eq!(bench.paper[12], 0x55);
     // Without paper no printer has a place.
     let mut bench = three_steps();
     bench.paper.clear();
