@@ -162,9 +162,42 @@ uint64_t lavushmir_run(uint8_t *image, size_t image_bytes,
                        uint64_t budget, uint64_t stop_at_exceptions);
 
 /*
- * Take-back follows. Its prototype comes here when the archive has it; its
- * numbers are in the list above already.
+ * Take-back: undoes the newest steps of the machine that the image holds, from
+ * their records.
+ *
+ * image                the state: read, and written where the call is done.
+ * ram                  as for run. Written where the call is done.
+ * paper                as for run. Written where the call is done.
+ * journal              the records of the newest steps. Only read: its bytes
+ *                      stay, and the next run writes over them.
+ * steps                how many steps to take back, from 0 to the steps on hand.
+ *
+ * Answers, the first that applies:
+ *   LAVUSHMIR_BAD_RAM        the length of ram is not allowed.
+ *   LAVUSHMIR_BAD_PAPER      the length of paper is not allowed.
+ *   LAVUSHMIR_BAD_JOURNAL    the length of journal is not allowed.
+ *   LAVUSHMIR_BAD_IMAGE      image_bytes is not 501, or the image breaks a rule.
+ *   LAVUSHMIR_NOT_ON_HAND    steps is more than the image has on hand.
+ *   LAVUSHMIR_BAD_RECORD     one of the records asked for is not well formed:
+ *                            its bytes do not keep the layout of docs/RECORD.md,
+ *                            or a place in it lies outside the lent RAM or
+ *                            paper, or the image that it gives back breaks a
+ *                            rule. Nothing is taken back, also where only the
+ *                            last of several is bad.
+ *   LAVUSHMIR_DONE           with the steps that were taken back, which are all
+ *                            that were asked for, and LAVUSHMIR_NO_REASON.
+ *
+ * Everything is then as it was before those steps, but for the two words that
+ * count the journal's records: steps on hand is lower by that many, and next
+ * slot is turned back by as many. Steps that are run again leave the same
+ * state. Journals that a run has written, lent with the RAM and paper that it
+ * left, never give LAVUSHMIR_BAD_RECORD.
  */
+uint64_t lavushmir_take_back(uint8_t *image, size_t image_bytes,
+                             uint8_t *ram, size_t ram_bytes,
+                             uint8_t *paper, size_t paper_bytes,
+                             const uint8_t *journal, size_t journal_bytes,
+                             uint64_t steps);
 
 #ifdef __cplusplus
 }
