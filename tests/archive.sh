@@ -1,0 +1,50 @@
+# To be sourced by the run.sh of a Rust program that is linked with the archive:
+#
+#     . "$(dirname "$0")/../archive.sh"
+#     use_archive ARCHIVE
+#     cd "$(dirname "$0")"
+#     run_program ARGUMENTS
+#
+# ARCHIVE is the x86-64 archive, a file named liblavushmir.a.
+#
+# On Arm the program is built for x86-64 and run by qemu-x86_64. That needs
+# gcc-x86-64-linux-gnu, qemu-user, and Rust's own library for
+# x86_64-unknown-linux-gnu: libstd-rust-dev:amd64 where cargo is Debian's
+# (dpkg --add-architecture amd64), or `rustup target add`; and libc6:amd64
+# to run with.
+
+# Tells the build where the archive is.
+use_archive() {
+    if [ "$(basename "$1")" != liblavushmir.a ] || [ ! -f "$1" ]; then
+        echo "$0: no file named liblavushmir.a: $1" >&2
+        exit 2
+    fi
+    LAVUSHMIR_ARCHIVE_DIR=$(cd "$(dirname "$1")" && pwd)
+    # A changed archive is linked anew, whatever its date.
+    LAVUSHMIR_ARCHIVE_SUM=$(cksum < "$1")
+    export LAVUSHMIR_ARCHIVE_DIR LAVUSHMIR_ARCHIVE_SUM
+}
+
+# Builds the package of the current folder, and runs its program.
+run_program() {
+    case $(uname -m) in
+    x86_64)
+        cargo run --quiet --release --locked --offline -- "$@"
+        ;;
+    aarch64)
+        : "${CARGO_TARGET_X86_64_UNKNOWN_LINUX_GNU_LINKER:=x86_64-linux-gnu-gcc}"
+        # Where Debian's own libc6:amd64 is installed, its loader must not be
+        # passed by: the cross compiler's, with that package's library, aborts.
+        runner="qemu-x86_64 -L /usr/x86_64-linux-gnu"
+        [ -e /lib64/ld-linux-x86-64.so.2 ] && runner=qemu-x86_64
+        : "${CARGO_TARGET_X86_64_UNKNOWN_LINUX_GNU_RUNNER:=$runner}"
+        export CARGO_TARGET_X86_64_UNKNOWN_LINUX_GNU_LINKER
+        export CARGO_TARGET_X86_64_UNKNOWN_LINUX_GNU_RUNNER
+        cargo run --quiet --release --locked --offline --target x86_64-unknown-linux-gnu -- "$@"
+        ;;
+    *)
+        echo "$0: neither x86_64 nor aarch64" >&2
+        exit 2
+        ;;
+    esac
+}

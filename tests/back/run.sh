@@ -1,0 +1,19 @@
+#!/bin/sh
+# Builds the comparison of take-back with the reference, and runs it.
+#
+#     tests/back/run.sh ARCHIVE [SEED [PERCENT]]
+#
+# ARCHIVE is the x86-64 archive, a file named liblavushmir.a; for Arm see
+# tests/archive.sh. PERCENT is the share of the whole that is run; below 100 the
+# counts to be met are lower too.
+set -eu
+
+if [ $# -lt 1 ] || [ $# -gt 3 ]; then
+    echo "usage: $0 ARCHIVE [SEED [PERCENT]]" >&2
+    exit 2
+fi
+. "$(dirname "$0")/../archive.sh"
+use_archive "$1"
+shift
+cd "$(dirname "$0")"
+run_program "$@"

@@ -1,0 +1,103 @@
+//! The archive's calls on slices, each with its packed answer.
+
+extern "C" {
+    fn lavushmir_reset(
+        image: *mut u8,
+        image_bytes: usize,
+        time_scale: u64,
+        printer_delay: u64,
+        installed: u64,
+    ) -> u64;
+
+    fn lavushmir_run(
+        image: *mut u8,
+        image_bytes: usize,
+        execution_rom: *const u8,
+        execution_rom_bytes: usize,
+        bootstrap_rom: *const u8,
+        bootstrap_rom_bytes: usize,
+        ram: *mut u8,
+        ram_bytes: usize,
+        paper: *mut u8,
+        paper_bytes: usize,
+        journal: *mut u8,
+        journal_bytes: usize,
+        budget: u64,
+        stop_at_exceptions: u64,
+    ) -> u64;
+
+    fn lavushmir_take_back(
+        image: *mut u8,
+        image_bytes: usize,
+        ram: *mut u8,
+        ram_bytes: usize,
+        paper: *mut u8,
+        paper_bytes: usize,
+        journal: *const u8,
+        journal_bytes: usize,
+        steps: u64,
+    ) -> u64;
+}
+
+pub fn reset(image: &mut [u8], time_scale: u64, printer_delay: u64, installed: u64) -> u64 {
+    // SAFETY: pointer and length are those of one live slice.
+    unsafe {
+        lavushmir_reset(image.as_mut_ptr(), image.len(), time_scale, printer_delay, installed)
+    }
+}
+
+#[allow(clippy::too_many_arguments)]
+pub fn run(
+    image: &mut [u8],
+    execution_rom: &[u8],
+    bootstrap_rom: &[u8],
+    ram: &mut [u8],
+    paper: &mut [u8],
+    journal: &mut [u8],
+    budget: u64,
+    stop_at_exceptions: u64,
+) -> u64 {
+    // SAFETY: each pointer and length are those of one live slice; those that
+    // are written are slices of their own.
+    unsafe {
+        lavushmir_run(
+            image.as_mut_ptr(),
+            image.len(),
+            execution_rom.as_ptr(),
+            execution_rom.len(),
+            bootstrap_rom.as_ptr(),
+            bootstrap_rom.len(),
+            ram.as_mut_ptr(),
+            ram.len(),
+            paper.as_mut_ptr(),
+            paper.len(),
+            journal.as_mut_ptr(),
+            journal.len(),
+            budget,
+            stop_at_exceptions,
+        )
+    }
+}
+
+pub fn take_back(
+    image: &mut [u8],
+    ram: &mut [u8],
+    paper: &mut [u8],
+    journal: &[u8],
+    steps: u64,
+) -> u64 {
+    // SAFETY: as in `run`; the journal is only read.
+    unsafe {
+        lavushmir_take_back(
+            image.as_mut_ptr(),
+            image.len(),
+            ram.as_mut_ptr(),
+            ram.len(),
+            paper.as_mut_ptr(),
+            paper.len(),
+            journal.as_ptr(),
+            journal.len(),
+            steps,
+        )
+    }
+}
