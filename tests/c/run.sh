@@ -1,6 +1,6 @@
 #!/bin/sh
 # Compiles the header from C99 and from C++11 with all warnings as errors,
-# links both programs with the archive, and runs them.
+# links the programs with the archive, and runs them.
 #
 #     tests/c/run.sh ARCHIVE
 #
@@ -44,7 +44,9 @@ $cxx -std=c++11 $warnings -I "$include" -c "$scratch/header.cpp" -o "$scratch/he
 
 $cc -std=c99 $warnings -O1 -I "$include" "$here/reset.c" "$archive" -o "$scratch/reset_c"
 $cc -std=c99 $warnings -O1 -I "$include" "$here/run.c" "$archive" -o "$scratch/run_c"
+$cc -std=c99 $warnings -O1 -I "$include" "$here/back.c" "$archive" -o "$scratch/back_c"
 $cxx -std=c++11 $warnings -O1 -I "$include" "$here/reset.cpp" "$archive" -o "$scratch/reset_cpp"
 $runner "$scratch/reset_c"
 $runner "$scratch/run_c"
+$runner "$scratch/back_c"
 $runner "$scratch/reset_cpp"
