@@ -3,6 +3,10 @@
 //! `bench [--strict]`. Exit 0: all ended in equal state; 1: not so, or, with
 //! `--strict`, a ratio above the limit.
 
+#[allow(dead_code)]
+#[path = "../../tests/shared/lavushmir.rs"]
+mod lavushmir;
+
 mod archive;
 mod cpu_time;
 mod host;

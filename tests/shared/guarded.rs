@@ -22,6 +22,8 @@ impl Guarded {
         self.bytes.len() - 2 * GUARD_BYTES
     }
 
+    /// To be lent for reading, too; whether it was written all the same is asked
+    /// of `touched`.
     pub fn content(&self) -> &[u8] {
         &self.bytes[GUARD_BYTES..][..self.len()]
     }
@@ -31,16 +33,6 @@ impl Guarded {
     pub fn content_mut(&mut self) -> &mut [u8] {
         let length = self.len();
         &mut self.bytes[GUARD_BYTES..][..length]
-    }
-
-    /// For a call that only reads; whether it did is asked of `touched`.
-    pub fn pointer(&self) -> *const u8 {
-        self.content().as_ptr()
-    }
-
-    pub fn pointer_mut(&mut self) -> *mut u8 {
-        let length = self.len();
-        self.bytes[GUARD_BYTES..][..length].as_mut_ptr()
     }
 
     /// What is wrong after a call that may write the content, or None.

@@ -60,13 +60,12 @@ mod words;
 #[path = "../../run/src/wrong.rs"]
 mod wrong;
 
-#[path = "../../shared/archive.rs"]
-mod archive;
 #[path = "../../shared/dice.rs"]
 mod dice;
-#[allow(dead_code)]
 #[path = "../../shared/guarded.rs"]
 mod guarded;
+#[path = "../../shared/lavushmir.rs"]
+mod lavushmir;
 
 mod asked;
 mod boot;

@@ -1,10 +1,10 @@
 //! One machine on both sides: the archive's buffers, between guard bytes, and
 //! the reference's. Every call is made on both, and every byte compared.
 
-use crate::archive;
 use crate::call::Call;
 use crate::fields::byte_name;
 use crate::guarded::Guarded;
+use crate::lavushmir;
 use crate::names::{journal_byte, paper_byte, ram_byte};
 use crate::report::unpacked;
 use reference::{decode, Answer, Machine};
@@ -56,14 +56,14 @@ impl Sides {
     }
 
     pub fn reset(&mut self, [time_scale, delay, installed]: [u64; 3]) -> Both {
-        let ours = archive::reset(self.image.content_mut(), time_scale, delay, installed);
+        let ours = lavushmir::reset(self.image.content_mut(), time_scale, delay, installed);
         let image = &mut self.theirs.image;
         let theirs = reference::reset(image, time_scale, delay, installed);
         self.compared(ours, theirs)
     }
 
     pub fn run(&mut self, budget: u64, stop: u64) -> Both {
-        let ours = archive::run(
+        let ours = lavushmir::run(
             self.image.content_mut(),
             self.execution.content(),
             self.bootstrap.content(),
@@ -82,7 +82,7 @@ impl Sides {
     }
 
     pub fn take_back(&mut self, steps: u64) -> Both {
-        let ours = archive::take_back(
+        let ours = lavushmir::take_back(
             self.image.content_mut(),
             self.ram.content_mut(),
             self.paper.content_mut(),

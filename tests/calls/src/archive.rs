@@ -2,17 +2,10 @@
 //! bytes, and a call that wrote where it must not is an error.
 
 use crate::guarded::Guarded;
+use crate::lavushmir;
 
+// Exported for these tests only.
 extern "C" {
-    fn lavushmir_reset(
-        image: *mut u8,
-        image_bytes: usize,
-        time_scale: u64,
-        printer_delay: u64,
-        installed: u64,
-    ) -> u64;
-
-    // Exported for these tests only.
     fn lavushmir_test_rules(image: *const u8, image_bytes: usize, paper: u64, journal: u64) -> u64;
     fn lavushmir_test_rom_answer(
         execution: *const u8,
@@ -46,19 +39,15 @@ pub fn reset(
     printer_delay: u64,
     installed: u64,
 ) -> Result<u64, String> {
-    let length = image.len();
-    // SAFETY: pointer and length are those of one live buffer that no other
-    // reference looks into.
-    let answer = unsafe {
-        lavushmir_reset(image.pointer_mut(), length, time_scale, printer_delay, installed)
-    };
+    let answer = lavushmir::reset(image.content_mut(), time_scale, printer_delay, installed);
     unless(image.guards_hurt(), answer)
 }
 
 /// 1 if the image keeps the rules, 0 if not.
 pub fn rules(image: &Guarded, paper: u64, journal: u64) -> Result<u64, String> {
     // SAFETY: pointer and length are those of one live buffer, lent for reading.
-    let verdict = unsafe { lavushmir_test_rules(image.pointer(), image.len(), paper, journal) };
+    let verdict =
+        unsafe { lavushmir_test_rules(image.content().as_ptr(), image.len(), paper, journal) };
     unless(image.touched(), verdict)
 }
 
@@ -67,9 +56,9 @@ pub fn rom_answer(execution: &Guarded, bootstrap: &Guarded, address: u64) -> Res
     // SAFETY: each pointer and length are those of one live buffer, lent for reading.
     let answer = unsafe {
         lavushmir_test_rom_answer(
-            execution.pointer(),
+            execution.content().as_ptr(),
             execution.len(),
-            bootstrap.pointer(),
+            bootstrap.content().as_ptr(),
             bootstrap.len(),
             address,
         )
@@ -89,12 +78,12 @@ pub fn rom_window(
     // a buffer of its own that no other reference looks into.
     let length = unsafe {
         lavushmir_test_rom_window(
-            execution.pointer(),
+            execution.content().as_ptr(),
             execution.len(),
-            bootstrap.pointer(),
+            bootstrap.content().as_ptr(),
             bootstrap.len(),
             address,
-            out.pointer_mut(),
+            out.content_mut().as_mut_ptr(),
             out_bytes,
         )
     };

@@ -3,12 +3,18 @@
 //!
 //! `calls [SEED]`. Exit 0: all equal and all counts met; 1: not so.
 
+#[path = "../../shared/dice.rs"]
+mod dice;
+#[path = "../../shared/guarded.rs"]
+mod guarded;
+#[allow(dead_code)]
+#[path = "../../shared/lavushmir.rs"]
+mod lavushmir;
+
 mod archive;
 mod breaches;
-mod dice;
 mod edges;
 mod fields;
-mod guarded;
 mod judge;
 mod one_bit;
 mod report;

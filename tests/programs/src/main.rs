@@ -3,8 +3,13 @@
 //!
 //! `programs FOLDER [SEED]`; compile.sh fills the folder. Exit 0: all equal.
 
-mod archive;
+#[allow(dead_code)]
+#[path = "../../shared/dice.rs"]
 mod dice;
+#[allow(dead_code)]
+#[path = "../../shared/lavushmir.rs"]
+mod lavushmir;
+
 mod elf;
 mod expected;
 mod judge;

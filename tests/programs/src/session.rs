@@ -1,7 +1,7 @@
 //! One program, run to its end in calls of any budget, on both sides.
 
-use crate::archive;
 use crate::dice::Dice;
+use crate::lavushmir;
 use crate::mode::Mode;
 use crate::station::{Roms, Station};
 use reference::{reset, run_with_records, Machine, EXCEPTION};
@@ -95,7 +95,7 @@ fn system_call(
 
 impl Session<'_> {
     fn reset(&mut self, delay: u64) -> Result<(), String> {
-        let ours = archive::reset(&mut self.ours.image, 1, delay, 0xFF);
+        let ours = lavushmir::reset(&mut self.ours.image, 1, delay, 0xFF);
         let theirs = reset(&mut self.theirs.image, 1, delay, 0xFF).packed();
         self.compared("reset", ours, theirs)
     }
@@ -107,7 +107,7 @@ impl Session<'_> {
         let stop = dice.pick(&[1, 2, 1 << 32, u64::MAX]);
         let Roms { execution, bootstrap } = self.roms;
         let Station { image, ram, paper, journal } = &mut self.ours;
-        let ours = archive::run(image, execution, bootstrap, ram, paper, journal, budget, stop);
+        let ours = lavushmir::run(image, execution, bootstrap, ram, paper, journal, budget, stop);
         let Station { image, ram, paper, journal } = &mut self.theirs;
         let answer =
             run_with_records(image, execution, bootstrap, ram, paper, journal, budget, stop);

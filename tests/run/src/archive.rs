@@ -3,25 +3,7 @@
 
 use crate::call::{Call, Outcome};
 use crate::guarded::Guarded;
-
-extern "C" {
-    fn lavushmir_run(
-        image: *mut u8,
-        image_bytes: usize,
-        execution_rom: *const u8,
-        execution_rom_bytes: usize,
-        bootstrap_rom: *const u8,
-        bootstrap_rom_bytes: usize,
-        ram: *mut u8,
-        ram_bytes: usize,
-        paper: *mut u8,
-        paper_bytes: usize,
-        journal: *mut u8,
-        journal_bytes: usize,
-        budget: u64,
-        stop_at_exceptions: u64,
-    ) -> u64;
-}
+use crate::lavushmir;
 
 /// The six buffers of a call, lent to the archive again and again.
 pub struct Lent {
@@ -47,28 +29,16 @@ impl Lent {
 
     /// The packed answer; image, RAM, paper and journal are written in place.
     pub fn run(&mut self, budget: u64, stop: u64) -> Result<u64, String> {
-        let (image, ram) = (self.image.len(), self.ram.len());
-        let (paper, journal) = (self.paper.len(), self.journal.len());
-        // SAFETY: each pointer and length are those of one live buffer, and no
-        // two are of the same; no other reference looks into those for writing.
-        let answer = unsafe {
-            lavushmir_run(
-                self.image.pointer_mut(),
-                image,
-                self.execution.pointer(),
-                self.execution.len(),
-                self.bootstrap.pointer(),
-                self.bootstrap.len(),
-                self.ram.pointer_mut(),
-                ram,
-                self.paper.pointer_mut(),
-                paper,
-                self.journal.pointer_mut(),
-                journal,
-                budget,
-                stop,
-            )
-        };
+        let answer = lavushmir::run(
+            self.image.content_mut(),
+            self.execution.content(),
+            self.bootstrap.content(),
+            self.ram.content_mut(),
+            self.paper.content_mut(),
+            self.journal.content_mut(),
+            budget,
+            stop,
+        );
         match self.wrong() {
             None => Ok(answer),
             Some((name, what)) => Err(format!("{name}: {what}")),

@@ -6,13 +6,16 @@
 #[path = "../../calls/src/breaches.rs"]
 mod breaches;
 #[allow(dead_code)]
-#[path = "../../calls/src/dice.rs"]
+#[path = "../../shared/dice.rs"]
 mod dice;
 #[allow(dead_code)]
 #[path = "../../calls/src/fields.rs"]
 mod fields;
-#[path = "../../calls/src/guarded.rs"]
+#[path = "../../shared/guarded.rs"]
 mod guarded;
+#[allow(dead_code)]
+#[path = "../../shared/lavushmir.rs"]
+mod lavushmir;
 #[allow(dead_code)]
 #[path = "../../calls/src/report.rs"]
 mod report;
