@@ -56,7 +56,8 @@ pub fn reached(
     ensures { λ r. ⌜ r ≡ reachedOf kind width cp0 (rowsIn (now (rows .entry))) sizes va ⌝ }
 {
     let access = Access { kind, width };
-    reach::reach(mode_of(cp0.status), access, sizes, va, rows, cp0.entry_hi)
+    let to = reach::physical(mode_of(cp0.status), access, va, rows, cp0.entry_hi);
+    reach::landed(access, sizes, to)
 }
 
 pub fn load(

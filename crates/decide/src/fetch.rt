@@ -3,11 +3,12 @@ ghost use mathlib.Core.Path.{_≡_};
 ghost use Rattle.tlb.specs.Words.{rowsIn};
 ghost use Rattle.decide.specs.Lent.{lentOf, Whole};
 ghost use Rattle.decide.specs.Fetch.{fetchOf};
-use crate::access::reached;
 use crate::lent::sizes;
 use crate::lent::word_in;
 use board::places::RAM;
+use cp0::privilege::mode_of;
 use reach::Reached;
+use reach::access::Access;
 use reach::access::Kind;
 use reach::access::Width;
 use reach::plain::plain;
@@ -29,7 +30,13 @@ fn fetch_slow(
     ensures { λ r. ⌜ r ≡ fetchOf core (rowsIn (now (rows .entry))) (lentOf (now (execution .entry)) (now (bootstrap .entry)) (now (ram .entry))) ⌝ }
 {
     let lent = sizes(execution, bootstrap, ram);
-    let answer = reached(Kind::Fetch, Width::Four, core.cp0, rows, lent, core.pc);
+    let access = Access {
+        kind: Kind::Fetch,
+        width: Width::Four,
+    };
+    let cp0 = core.cp0;
+    let to = reach::physical(mode_of(cp0.status), access, core.pc, rows, cp0.entry_hi);
+    let answer = reach::landed(access, lent, to);
     match answer {
         Reached::Lands(place) => Fetched::Word(word_in(place, execution, bootstrap, ram)),
         Reached::Exception { miss, code } => Fetched::Refused(code, miss),

@@ -20,7 +20,12 @@ abbrev pub busAfter : Access → Sizes → Translated → Reached
 busAfter access sizes (To p) = landsOf (access .kind) (access .width) (mappedOf sizes p)
 busAfter access sizes (Raises code miss) = Exception miss code
 
--- t is the table, entry the EntryHi register
+-- what comes before the bus; t is the table, entry the EntryHi register
+abbrev pub physicalOf : Mode → Access → ℕ → List Row → ℕ → Translated
+physicalOf mode access a t entry =
+    cond (alignedOf (access .width) a && allowedOf mode a) (translatedOf mode (access .kind) a t entry) (Raises (addressError (access .kind)) false)
+
+-- the whole answer (proofs/TwoParts.antt: it is the bus after what comes before it)
 unfoldable pub reachOf : Mode → Access → Sizes → ℕ → List Row → ℕ → Reached
 reachOf mode access sizes a t entry =
     cond (alignedOf (access .width) a && allowedOf mode a)

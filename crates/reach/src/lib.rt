@@ -1,7 +1,7 @@
 // Document 01, "Addresses": where an access lands, or which exception it is.
 ghost use mathlib.Core.Path.{_≡_};
 ghost use Rattle.tlb.specs.Words.{rowsIn};
-ghost use Rattle.reach.specs.Reach.{reachOf};
+ghost use Rattle.reach.specs.Reach.{busAfter, physicalOf};
 use access::Access;
 use board::places::Place;
 use board::places::Sizes;
@@ -13,7 +13,7 @@ mod bus; // what the board gives it there
 mod check; // alignment and privilege
 pub mod codes; // the exceptions' numbers
 pub mod plain; // an access that needs neither the table nor the map
-mod translate; // the physical address, by the table
+pub mod translate; // the physical address, by the table
 
 // The bool stands beside the tag and the code where a place's offset stands, so that neither overlaps a half of the other.
 pub enum Reached {
@@ -21,24 +21,27 @@ pub enum Reached {
     Exception { miss: bool, code: u32 },
 }
 
-// `words` are the table's and `entry` is the EntryHi register.
-pub fn reach(
-    mode: Mode,
-    access: Access,
-    sizes: Sizes,
-    a: u32,
-    words: &[u32; 32],
-    entry: u32,
-) -> Reached
-    ensures { λ r. ⌜ r ≡ reachOf mode access sizes a (rowsIn (now (words .entry))) entry ⌝ }
+// Alignment and privilege, then the table. `words` are the table's and `entry` is the EntryHi register.
+pub fn physical(mode: Mode, access: Access, a: u32, words: &[u32; 32], entry: u32) -> Translated
+    ensures { λ r. ⌜ r ≡ physicalOf mode access a (rowsIn (now (words .entry))) entry ⌝ }
 {
     let kind = access.kind;
     let width = access.width;
     if !check::checked(mode, width, a) {
         let code = check::address_error(kind);
-        return Reached::Exception { miss: false, code };
+        return Translated::Raises { code, miss: false };
     }
-    match translate::translate(mode, kind, a, words, entry) {
+    translate::translate(mode, kind, a, words, entry)
+}
+
+// Then the bus. Apart from `physical`, which is long and stays a call of its own: a place handed back by a call is stored as a tag and a number, and the caller would wait
+// to read both at once (docs/SPEED.md).
+pub fn landed(access: Access, sizes: Sizes, to: Translated) -> Reached
+    ensures { λ r. ⌜ r ≡ busAfter access sizes to ⌝ }
+{
+    let kind = access.kind;
+    let width = access.width;
+    match to {
         Translated::To(p) => bus::on_bus(kind, width, sizes, p),
         Translated::Raises { code, miss } => Reached::Exception { miss, code },
     }

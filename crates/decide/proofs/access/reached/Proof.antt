@@ -1,5 +1,6 @@
--- `decide::access::reached` meets its contract: what `reach` answers under Status and EntryHi.
-use Rattle.decide.specs.Access.{reachedOf}
+-- `decide::access::reached` meets its contract: what comes before the bus, under Status and EntryHi, then the bus.
+use Rattle.tlb.specs.Words.{rowsIn}
+use Rattle.decide.proofs.InParts.{reached-in-parts}
 use borrow.Author.Needs.{needs}
 use Rattle.decide.proofs.access.reached.Statement.{statement}
 use Rattle.decide.proofs.access.reached.Tie as tie
@@ -7,12 +8,17 @@ use Rattle.decide.proofs.access.reached.Tie as tie
 mode-of-requires : tie.Need-mode-of-requires
 mode-of-requires c κs = search needs
 
-reach-requires : tie.Need-reach-requires
-reach-requires c κs = search needs
+physical-requires : tie.Need-physical-requires
+physical-requires c κs = search needs
+
+landed-requires : tie.Need-landed-requires
+landed-requires c κs = search needs
 
 returns : tie.Need-returns
-unfolding reachedOf
-returns c = rw (c .reach .ensures, c .before .mode-of .ensures)
+returns c =
+    let a = c .before .before .before .args in
+    reached-in-parts (a .kind) (a .width) (a .cp0) (rowsIn (a .rows .now)) (a .sizes) (a .va) (c .before .before .mode-of .ensures) (c .before .physical .ensures) (c .landed .ensures)
 
 pub reached-spec : {M : Type 1} → statement M
-reached-spec = tie.close (tie.spec mode-of-requires reach-requires returns)
+reached-spec =
+    tie.close (tie.spec mode-of-requires physical-requires landed-requires returns)
