@@ -1,19 +1,20 @@
 -- The moves of the printers' line on the words that a run holds, over plain values: a printer that was put back is the one that changed.
 use Prim.Native.Nat.{ℕ, _+_, _*_, _<_}
 use mathlib.Core.Path.{_≡_, refl, sym, ap, _∙_}
-use mathlib.Core.Bool.{Bool, true, false, cond}
+use mathlib.Core.Bool.{Bool, true, false, cond, _&&_}
 use mathlib.Core.List.{List}
-use borrow.Author.Tests.{ne-eqb}
+use borrow.Author.Tests.{ne-eqb, lt-leb}
+use lib.Dec.{eqb, ltb}
 use lib.ListN.{length, getD, set}
 use lib.Seq.{sets, set-getD}
 use Rattle.word.specs.Map.{withBit}
-use Rattle.printer.specs.Tick.{printing, noPrinter, roomOf, isBusy, finishes, printerTicked, paperTicked, tickOne, OneIs}
+use Rattle.printer.specs.Tick.{printing, noPrinter, roomOf, placeOf, isBusy, finishes, prints, printerTicked, paperTicked, tickOne, OneIs}
 use Rattle.printer.specs.Command.{isIllegal, commandedOf, withData, commandOf, dataOf}
 use Rattle.printer.specs.declared.Printer.{Printer}
 use Rattle.printer.specs.declared.tick.One.{One}
 use Rattle.state.specs.Layout.{printerWords}
 use Rattle.held.specs.Board.{printerIn, printersIn}
-use Rattle.held.specs.Line.{OneHeldIs, takesIn, CommandIs, DataIs}
+use Rattle.held.specs.Line.{OneHeldIs, takesIn, CommandIs, DataIs, KeptIs}
 use Rattle.held.proofs.Stored.{stored-printer, stored-forty, printer-at}
 
 module _ (words : List ℕ) (n : ℕ) (few : n < 8) (forty : length words ≡ 40) where
@@ -78,3 +79,25 @@ module _ (words : List ℕ) (n : ℕ) (few : n < 8) (forty : length words ≡ 40
           line-is = λ pending. rw (takes is on, put, stored-printer words n (withData word p) forty few, is, printer-at words n few);
           forty = ap (λ (l : List ℕ). length l) put ∙ stored-forty words n (withData word p) forty few;
         }
+
+-- ---- what a record keeps of paper
+
+not-ended : (b c : Bool) → ((b && false) && c) ≡ false
+not-ended true c = refl
+not-ended false c = refl
+
+-- a printer with more than one tick left prints nothing
+pub goes-on : (words : List ℕ) (n : ℕ) (paper : List ℕ) → 1 < getD words (5 * n + 3) 0 → KeptIs n words paper (record { on = false; byte = 0 })
+goes-on words n paper more =
+    let p = printerIn words n in
+    let last : Bool = eqb (p .command) 2 && ltb (p .count) (roomOf paper) in
+    let off : prints (roomOf paper) p ≡ false = ap (λ (b : Bool). (isBusy p && b) && last) (lt-leb (p .left) 1 more) ∙ not-ended (isBusy p) last in
+    record { on-is = sym off; byte-is = sym (ap (λ (b : Bool). cond b (getD paper (placeOf (roomOf paper) n (p .count)) 0) 0) off) }
+
+pub looked-at : (words : List ℕ) (n : ℕ) (paper : List ℕ) {p : Printer} {on : Bool} {byte : ℕ} → p ≡ printerIn words n → on ≡ prints (roomOf paper) p →
+    byte ≡ cond (prints (roomOf paper) p) (getD paper (placeOf (roomOf paper) n (p .count)) 0) 0 → KeptIs n words paper (record { on = on; byte = byte })
+looked-at words n paper is on byte =
+    record {
+      on-is = on ∙ ap (prints (roomOf paper)) is;
+      byte-is = byte ∙ ap (λ (q : Printer). cond (prints (roomOf paper) q) (getD paper (placeOf (roomOf paper) n (q .count)) 0) 0) is;
+    }

@@ -1,15 +1,16 @@
 -- What the moves of the printers' line leave of the forty words that a run holds. words′ and paper′ are what stands behind the references afterwards.
 use Prim.Native.Nat.{ℕ}
-use mathlib.Core.Bool.{Bool, not, _&&_}
+use mathlib.Core.Bool.{Bool, not, _&&_, cond}
 use mathlib.Core.List.{List}
 use mathlib.Core.Path.{_≡_}
-use lib.ListN.{length, set}
+use lib.ListN.{length, getD, set}
 use Rattle.word.specs.Map.{bit}
-use Rattle.printer.specs.Tick.{printing, roomOf, isBusy, finishes, printerTicked, paperTicked, tickedOf}
+use Rattle.printer.specs.Tick.{printing, roomOf, placeOf, isBusy, finishes, prints, printerTicked, paperTicked, tickedOf}
 use Rattle.printer.specs.Command.{commandOf, dataOf}
 use Rattle.printer.specs.declared.Line.{Line}
 use Rattle.printer.specs.declared.Printer.{Printer}
 use Rattle.held.specs.Board.{printerIn, printersIn}
+use Rattle.held.specs.declared.line.Kept.{Kept}
 
 abbrev pub lineIn : List ℕ → ℕ → Line
 lineIn words pending = record { printers = printersIn words; pending = pending }
@@ -37,3 +38,8 @@ pub record CommandIs (installed delay n word : ℕ) (words : List ℕ) (pending 
 pub record DataIs (installed n word : ℕ) (words words′ : List ℕ) : Type 0 where
   pub line-is : (pending : ℕ) → lineIn words′ pending ≡ dataOf installed n word (lineIn words pending)
   pub forty : length words′ ≡ 40
+
+-- what a record keeps of paper for printer n
+pub record KeptIs (n : ℕ) (words paper : List ℕ) (r : Kept) : Type 0 where
+  pub on-is : r .on ≡ prints (roomOf paper) (printerIn words n)
+  pub byte-is : r .byte ≡ cond (prints (roomOf paper) (printerIn words n)) (getD paper (placeOf (roomOf paper) n (printerIn words n .count)) 0) 0

@@ -5,7 +5,7 @@ ghost use lib.ListN.{length};
 ghost use Rattle.printer.specs.Tick.{anyBusy};
 ghost use Rattle.printer.specs.Saved.{savedPaperOf};
 ghost use Rattle.held.specs.Board.{printersIn};
-ghost use Rattle.held.specs.Line.{OneHeldIs, TicksIs, CommandIs, DataIs};
+ghost use Rattle.held.specs.Line.{OneHeldIs, TicksIs, CommandIs, DataIs, KeptIs};
 use crate::printer_in;
 use crate::put_printer;
 use printer::BUSY;
@@ -105,17 +105,38 @@ pub fn data(words: &mut [u32; 40], installed: u32, n: usize, word: u32)
     put_printer(next, words, 5 * n);
 }
 
+// Whether a printer prints in this step, and the byte that it overwrites.
+pub struct Kept {
+    pub on: bool,
+    pub byte: u8,
+}
+
+// Of a printer that goes on, only the ticks left are looked at.
+fn saved_at(words: &[u32; 40], n: usize, paper: &[u8]) -> Kept
+    requires { ⌜ n < 8 ⌝ }
+    ensures { λ r. ⌜ KeptIs n (now (words .entry)) (now (paper .entry)) r ⌝ }
+{
+    if 1 < words[5 * n + 3] {
+        return Kept { on: false, byte: 0 };
+    }
+    let room = paper.len() / 8;
+    let p = printer_in(words, n);
+    Kept {
+        on: prints(room, p),
+        byte: saved_byte(n, p, paper),
+    }
+}
+
 // What a record keeps of paper.
 pub fn saved_paper(words: &[u32; 40], paper: &[u8]) -> SavedPaper
     ensures { λ r. ⌜ r ≡ savedPaperOf (printersIn (now (words .entry))) (now (paper .entry)) ⌝ }
 {
-    let room = paper.len() / 8;
     let mut mask: u32 = 0;
     let mut bytes = [0u8; 8];
     for n in 0..8 {
-        let p = printer_in(words, n);
-        mask = with_bit(n, prints(room, p), mask);
-        bytes[n] = saved_byte(n, p, paper);
+        let one = saved_at(words, n, paper);
+        mask = with_bit(n, one.on, mask);
+        bytes[n] = one.byte;
     }
     SavedPaper { mask, bytes }
 }

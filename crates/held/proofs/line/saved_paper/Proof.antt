@@ -1,5 +1,4 @@
 -- `held::line::saved_paper` meets its contract. The invariant: the map and the bytes of the printers passed are made.
-use borrow.Author.Needs.{needs}
 use mathlib.Core.Bool.{cond}
 use mathlib.Core.Path.{_≡_, refl, sym, ap, _∙_}
 use mathlib.Core.List.{_++_}
@@ -18,26 +17,21 @@ use Rattle.held.proofs.line.saved_paper.Statement.{statement}
 use Rattle.held.proofs.line.saved_paper.Tie as tie
 
 abbrev Inv-loop : tie.InvT-loop
-Inv-loop words paper room mask₀ bytes₀ n₀ mask bytes n = (n ≤ 8) × (mask ≡ printingMap room (printersIn words) n) × (bytes ≡ tabulate n (savedByte (printersIn words) paper) ++ drop n bytes₀)
+Inv-loop words paper mask₀ bytes₀ n₀ mask bytes n =
+    (n ≤ 8) × (mask ≡ printingMap (roomOf paper) (printersIn words) n) × (bytes ≡ tabulate n (savedByte (printersIn words) paper) ++ drop n bytes₀)
 
 abbrev μ-loop : tie.MeasureT-loop
-μ-loop words paper room mask₀ bytes₀ n₀ mask bytes n = 8 - n
+μ-loop words paper mask₀ bytes₀ n₀ mask bytes n = 8 - n
 
 loop-holds : tie.Need-loop-holds Inv-loop μ-loop
 unfolding printingMap
 loop-holds c = (omega arith, refl, refl)
 
-printer-in-requires : tie.Need-printer-in-requires Inv-loop μ-loop
-printer-in-requires c κs = omega arith
-
-prints-requires : tie.Need-prints-requires Inv-loop μ-loop
-prints-requires c κs = search needs
+saved-at-requires : tie.Need-saved-at-requires Inv-loop μ-loop
+saved-at-requires c κs = omega arith
 
 with-bit-requires : tie.Need-with-bit-requires Inv-loop μ-loop
 with-bit-requires c κs = omega arith
-
-saved-byte-requires : tie.Need-saved-byte-requires Inv-loop μ-loop
-saved-byte-requires c κs = omega arith
 
 array-write-bytes : tie.Need-array-write-bytes Inv-loop μ-loop
 array-write-bytes c = omega arith
@@ -51,15 +45,15 @@ loop-less c = omega arith
 loop-again : tie.Need-loop-again Inv-loop μ-loop
 unfolding printingMap
 loop-again c =
-    let read = c .before .before .before in
-    let l = read .before .before .loop in
-    let a = read .before .before .before .before .args in
+    let kept = c .before in
+    let l = kept .before .before .loop in
+    let a = kept .before .before .before .before .args in
     let few : l .n < 8 = omega arith in
-    let same = read .printer-in .ensures ∙ sym (printer-at (a .words .now) (l .n) few) in
+    let same = sym (printer-at (a .words .now) (l .n) few) in
     let room = roomOf (a .paper .now) in
-    let one = c .saved-byte .ensures ∙ ap (λ (q : Printer). cond (prints room q) (getD (a .paper .now) (placeOf room (l .n) (q .count)) 0) 0) same in (
+    let one = kept .saved-at .ensures .byte-is ∙ ap (λ (q : Printer). cond (prints room q) (getD (a .paper .now) (placeOf room (l .n) (q .count)) 0) 0) same in (
       omega arith,
-      rw (add-one (l .n), c .before .with-bit .ensures, c .before .before .prints .ensures ∙ ap (prints room) same, l .inv .1),
+      rw (add-one (l .n), c .with-bit .ensures, kept .saved-at .ensures .on-is ∙ ap (prints room) same, l .inv .1),
       rw one (fill-step (savedByte (printersIn (a .words .now)) (a .paper .now)) _ (l .bytes) (l .n) (omega arith) (l .inv .2)),
     )
 
@@ -80,10 +74,8 @@ saved-paper-spec =
     Inv-loop
     μ-loop
     loop-holds
-    printer-in-requires
-    prints-requires
+    saved-at-requires
     with-bit-requires
-    saved-byte-requires
     array-write-bytes
     add-n
     loop-less
