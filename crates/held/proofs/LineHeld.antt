@@ -1,20 +1,22 @@
 -- The moves of the printers' line on the words that a run holds, over plain values: a printer that was put back is the one that changed.
-use Prim.Native.Nat.{ℕ, _+_, _*_, _<_}
+use Prim.Native.Nat.{ℕ, _+_, _*_, _-_, _<_}
 use mathlib.Core.Path.{_≡_, refl, sym, ap, _∙_}
 use mathlib.Core.Bool.{Bool, true, false, cond, _&&_}
 use mathlib.Core.List.{List}
-use borrow.Author.Tests.{ne-eqb, lt-leb}
-use lib.Dec.{eqb, ltb}
-use lib.ListN.{length, getD, set}
-use lib.Seq.{sets, set-getD}
+use native.Mathlib.Omega.{arith}
+use borrow.Author.Tests.{eq-eqb, ne-eqb, lt-leb}
+use lib.Dec.{eqb, leb, ltb}
+use lib.ListN.{length, getD, set, length-set}
+use lib.Seq.{sets, set-getD, getD-set-other}
 use Rattle.word.specs.Map.{withBit}
-use Rattle.printer.specs.Tick.{printing, noPrinter, roomOf, placeOf, isBusy, finishes, prints, printerTicked, paperTicked, tickOne, OneIs}
+use Rattle.printer.specs.Tick.{printing, noPrinter, roomOf, placeOf, isBusy, finishes, prints, fallen, printerTicked, paperTicked, tickOne, OneIs}
 use Rattle.printer.specs.Command.{isIllegal, commandedOf, withData, commandOf, dataOf}
 use Rattle.printer.specs.declared.Printer.{Printer}
 use Rattle.printer.specs.declared.tick.One.{One}
 use Rattle.state.specs.Layout.{printerWords}
 use Rattle.held.specs.Board.{printerIn, printersIn}
 use Rattle.held.specs.Line.{OneHeldIs, takesIn, CommandIs, DataIs, KeptIs}
+use Rattle.held.proofs.Board.{store-five}
 use Rattle.held.proofs.Stored.{stored-printer, stored-forty, printer-at}
 
 module _ (words : List ℕ) (n : ℕ) (few : n < 8) (forty : length words ≡ 40) where
@@ -28,6 +30,34 @@ module _ (words : List ℕ) (n : ℕ) (few : n < 8) (forty : length words ≡ 40
   still paper {p} is idle =
       let off : isBusy (printerIn words n) ≡ false = ap isBusy (sym is) ∙ ne-eqb (p .status) 3 idle in
       record { printers-are = rw off (sym same); finished-is = rw off; paper-is = rw off; forty = forty }
+
+  -- a printer put back with only its ticks left anew
+  left-alone : (left : ℕ) → let p = printerIn words n in
+      sets words (5 * n) (printerWords (record { status = p .status; command = p .command; data0 = p .data0; left = left; count = p .count })) ≡ set words (5 * n + 3) left
+  left-alone left =
+      let p = printerIn words n in
+      let far : 5 * n + 4 ≡ 5 * n + 3 → ⊥ = λ e. absurd (omega (arith, e)) in
+      sym (store-five words (5 * n) (p .status) (p .command) (p .data0) left (p .count))
+      ∙ ap (λ (l : List ℕ). set (set (set (set l (5 * n + 1) (p .command)) (5 * n + 2) (p .data0)) (5 * n + 3) left) (5 * n + 4) (p .count)) (set-getD words (5 * n) 0)
+      ∙ ap (λ (l : List ℕ). set (set (set l (5 * n + 2) (p .data0)) (5 * n + 3) left) (5 * n + 4) (p .count)) (set-getD words (5 * n + 1) 0)
+      ∙ ap (λ (l : List ℕ). set (set l (5 * n + 3) left) (5 * n + 4) (p .count)) (set-getD words (5 * n + 2) 0)
+      ∙ ap (set (set words (5 * n + 3) left) (5 * n + 4)) (sym (getD-set-other words (5 * n + 3) (5 * n + 4) left 0 far))
+      ∙ set-getD (set words (5 * n + 3) left) (5 * n + 4) 0
+
+  pub falls : (paper : List ℕ) {p : Printer} {words′ : List ℕ} → p ≡ printerIn words n → p .status ≡ 3 → 1 < p .left →
+      words′ ≡ set words (5 * n + 3) (p .left - 1) → OneHeldIs n words paper false words′ paper
+  unfolding printerTicked paperTicked
+  falls paper {p} {words′} is works more put =
+      let q = printerIn words n in
+      let busy : isBusy q ≡ true = ap isBusy (sym is) ∙ eq-eqb (p .status) 3 works in
+      let goes : leb (q .left) 1 ≡ false = ap (λ (x : Printer). leb (x .left) 1) (sym is) ∙ lt-leb (p .left) 1 more in
+      let written : words′ ≡ sets words (5 * n) (printerWords (fallen q)) = put ∙ ap (λ (x : Printer). set words (5 * n + 3) (x .left - 1)) is ∙ sym (left-alone (q .left - 1)) in
+      record {
+        printers-are = ap printersIn written ∙ stored-printer words n (fallen q) forty few ∙ ap (set (printersIn words) n) (sym (rw (busy, goes)));
+        finished-is = rw (busy, goes);
+        paper-is = rw (busy, goes);
+        forty = ap (λ (l : List ℕ). length l) put ∙ length-set words (5 * n + 3) (p .left - 1) ∙ forty;
+      }
 
   pub worked : (paper : List ℕ) {p : Printer} {one : One} {words′ paper′ : List ℕ} → p ≡ printerIn words n → OneIs n p paper one paper′ →
       words′ ≡ sets words (5 * n) (printerWords (one .printer)) → OneHeldIs n words paper (one .finished) words′ paper′

@@ -20,13 +20,17 @@ use printer::tick::tick_one;
 use word::map::has_bit;
 use word::map::with_bit;
 
-// The tick of printer `n`: whether it finished.
+// The tick of printer `n`: whether it finished. Of one that goes on, only the ticks left are written.
 fn tick_at(words: &mut [u32; 40], n: usize, paper: &mut [u8]) -> bool
     requires { ⌜ (n < 8) × (length (now words) ≡ 40) × (length (now paper) ≤ 65536) ⌝ }
     ensures { λ r. ⌜ OneHeldIs n (now (words .entry)) (now (paper .entry)) r (now (words .exit)) (now (paper .exit)) ⌝ }
 {
     let p = printer_in(words, n);
     if p.status != BUSY {
+        return false;
+    }
+    if 1 < p.left {
+        words[5 * n + 3] = p.left - 1;
         return false;
     }
     let one = tick_one(n, p, paper);
