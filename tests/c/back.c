@@ -1,8 +1,8 @@
 /* Take-back from C99: a run taken back step by step and at once, and each refusal. */
 
+#include "check.h"
 #include "lavushmir.h"
 
-#include <stdio.h>
 #include <string.h>
 
 enum {
@@ -26,18 +26,6 @@ static const uint8_t program[ROM] = {
 };
 
 static uint8_t image[LAVUSHMIR_IMAGE_BYTES], ram[RAM], paper[PAPER], journal[JOURNAL];
-static unsigned checks;
-static unsigned failures;
-
-static void check(int right, const char *what)
-{
-    checks++;
-    if (!right) {
-        failures++;
-        printf("c: failed: %s\n", what);
-    }
-}
-
 /* What a call may write; the journal is only read. */
 struct lent {
     uint8_t image[LAVUSHMIR_IMAGE_BYTES], ram[RAM], paper[PAPER], journal[JOURNAL];
@@ -173,10 +161,5 @@ int main(void)
 {
     there_and_back();
     refusals();
-    if (failures != 0) {
-        printf("c: %u of %u checks of take-back failed\n", failures, checks);
-        return 1;
-    }
-    printf("c: %u checks of take-back passed\n", checks);
-    return 0;
+    return checked("take-back");
 }

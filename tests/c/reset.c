@@ -1,24 +1,12 @@
 /* Reset from C99, as the service panel calls it. */
 
+#include "check.h"
 #include "lavushmir.h"
 #include "reset_image.h"
 
-#include <stdio.h>
 #include <string.h>
 
 enum { GUARD = 16, ROOM = GUARD + LAVUSHMIR_IMAGE_BYTES + 1 + GUARD };
-
-static unsigned checks;
-static unsigned failures;
-
-static void check(int right, const char *what)
-{
-    checks++;
-    if (!right) {
-        failures++;
-        printf("c: failed: %s\n", what);
-    }
-}
 
 /* A buffer in which no byte is what reset writes there by chance alone. */
 static void fill(uint8_t *room)
@@ -116,10 +104,5 @@ int main(void)
     refuses(501, 1, 1, past, LAVUSHMIR_BAD_PARAMETER, "installed map 2^32");
     refuses(501, UINT64_MAX, UINT64_MAX, UINT64_MAX, LAVUSHMIR_BAD_PARAMETER, "all ones");
 
-    if (failures != 0) {
-        printf("c: %u of %u checks failed\n", failures, checks);
-        return 1;
-    }
-    printf("c: %u checks passed\n", checks);
-    return 0;
+    return checked("reset");
 }

@@ -1,8 +1,8 @@
 /* Run from C99: four instructions to their end, and each refusal. */
 
+#include "check.h"
 #include "lavushmir.h"
 
-#include <stdio.h>
 #include <string.h>
 
 enum { ROM = 16, RAM = 4096, PAPER = 64, JOURNAL = 512, PC = 5 + 4 * 33 };
@@ -16,18 +16,6 @@ static const uint8_t program[ROM] = {
 static const uint8_t stopped_at[4] = {0x1F, 0xC0, 0x01, 0x80};
 
 static uint8_t image[LAVUSHMIR_IMAGE_BYTES], ram[RAM], paper[PAPER], journal[JOURNAL];
-static unsigned checks;
-static unsigned failures;
-
-static void check(int right, const char *what)
-{
-    checks++;
-    if (!right) {
-        failures++;
-        printf("c: failed: %s\n", what);
-    }
-}
-
 static void prepare(void)
 {
     memset(ram, 0xA1, RAM);
@@ -88,10 +76,5 @@ int main(void)
     image[0] ^= 1;
     refuses(run(501, ROM, RAM, 8, 256, 1), LAVUSHMIR_BAD_IMAGE, "a damaged image");
 
-    if (failures != 0) {
-        printf("c: %u of %u checks of run failed\n", failures, checks);
-        return 1;
-    }
-    printf("c: %u checks of run passed\n", checks);
-    return 0;
+    return checked("run");
 }
