@@ -13,11 +13,7 @@ rows-in-requires : tie.Need-rows-in-requires
 rows-in-requires c κs = search needs
 
 returns : tie.Need-returns
-returns c =
-    let rows = c .before in
-    let core = rows .before .before .before in
-    let unpacked = core .before .before .before .before in
-    rw (rows .rows-in .ensures, core .core-in .ensures, unpacked .unpacked .ensures)
+returns c = cc
 
 pub closed-spec : {M : Type 1} → statement M
 closed-spec = tie.close (tie.spec unpacked-requires core-in-requires rows-in-requires returns)
