@@ -1,13 +1,20 @@
 /*
- * Lavushmir: an emulator of the uMPS machine of document 01, callable from C.
+ * Lavushmir: an emulator of a small MIPS I machine (uMPS) that can run
+ * backwards, callable from C.
  *
- * For C99 and C++. Link with liblavushmir.a (x86-64).
+ * For C99 and C++. Link with liblavushmir.a (x86-64). docs/MACHINE.md has the
+ * rules of the machine, docs/RECORD.md the layout of a journal record,
+ * examples/panel.c a small program over this header.
  *
  * Buffers. The caller owns every buffer and lends it for the length of one
  * call. A call keeps no pointer, allocates nothing and frees nothing. A buffer
  * is given as a pointer to its first byte and its length in bytes. The pointer
  * is never NULL, also where the length is 0, and needs no alignment. One buffer
  * must not be lent twice in the same call, nor may two lent buffers overlap.
+ *
+ * Threads. A call has no state of its own: no global variable, no lock. Calls
+ * in several threads at once are fine as long as no buffer that one of them
+ * writes is lent to another.
  *
  * Numbers are unsigned, and all 64 bits of them count: a time scale of
  * 2^32 + 1 is refused, not taken as 1.
@@ -22,7 +29,7 @@
  *
  * Refusals. A call tests only what it is given, and answers the lowest number
  * that applies. It tests before it writes: a refusal leaves every lent byte as
- * it was, and reports 0 steps and no reason.
+ * it was, and reports 0 steps and no reason. A call ends whatever it is given.
  */
 #ifndef LAVUSHMIR_H
 #define LAVUSHMIR_H
@@ -34,8 +41,71 @@
 extern "C" {
 #endif
 
-/* The length of the state image. Its layout is given in document 01. */
+/* Goes up by one with every change of this header that a caller can see. */
+#define LAVUSHMIR_VERSION 2
+
+/* Limits. A length that breaks one of them is refused. */
+#define LAVUSHMIR_FRAME_BYTES 4096      /* RAM is made of whole frames */
+#define LAVUSHMIR_MOST_FRAMES 4096      /* at least 1 */
+#define LAVUSHMIR_LEAST_ROM_BYTES 4     /* of either ROM, a multiple of 4 */
+#define LAVUSHMIR_MOST_ROM_BYTES 65536
+#define LAVUSHMIR_MOST_PAPER_BYTES 65536 /* a multiple of 8, may be 0 */
+#define LAVUSHMIR_RECORD_BYTES 256      /* a journal is made of whole records */
+#define LAVUSHMIR_MOST_JOURNAL_BYTES 16777216 /* 65,536 records, may be 0 */
+#define LAVUSHMIR_MOST_BUDGET 1000000   /* steps of one run */
+#define LAVUSHMIR_MOST_TIME_SCALE 255   /* at least 1 */
+#define LAVUSHMIR_MOST_PRINTER_DELAY 65535 /* at least 1 */
+#define LAVUSHMIR_PRINTERS 8
+#define LAVUSHMIR_TLB_ENTRIES 16
+
+/* Where the ROMs and RAM begin in the machine's physical addresses. */
+#define LAVUSHMIR_EXECUTION_ROM_ADDRESS 0x00000000u
+#define LAVUSHMIR_BOOTSTRAP_ROM_ADDRESS 0x1FC00000u
+#define LAVUSHMIR_RAM_ADDRESS 0x20000000u
+
+/*
+ * The state image: a length word (the bytes behind it), a version byte, then
+ * 124 words, all big-endian. docs/MACHINE.md lists the rules that it keeps.
+ */
 #define LAVUSHMIR_IMAGE_BYTES 501
+#define LAVUSHMIR_IMAGE_VERSION 1
+#define LAVUSHMIR_IMAGE_WORDS 124
+
+/* The places of the image's words, for lavushmir_image_word. */
+enum {
+    LAVUSHMIR_WORD_REGISTER_1 = 0, /* register n is word n - 1, to 31 */
+    LAVUSHMIR_WORD_HI = 31,
+    LAVUSHMIR_WORD_LO = 32,
+    LAVUSHMIR_WORD_PC = 33,
+    LAVUSHMIR_WORD_NEXT_PC = 34,
+    LAVUSHMIR_WORD_INDEX = 35,
+    LAVUSHMIR_WORD_RANDOM = 36,
+    LAVUSHMIR_WORD_ENTRY_HI = 37,
+    LAVUSHMIR_WORD_ENTRY_LO = 38,
+    LAVUSHMIR_WORD_BAD_VADDR = 39,
+    LAVUSHMIR_WORD_STATUS = 40,
+    LAVUSHMIR_WORD_CAUSE = 41,
+    LAVUSHMIR_WORD_EPC = 42,
+    LAVUSHMIR_WORD_TLB = 43, /* entry i: words 43 + 2 i (high), 44 + 2 i (low) */
+    LAVUSHMIR_WORD_CLOCK_HIGH = 75,
+    LAVUSHMIR_WORD_CLOCK_LOW = 76,
+    LAVUSHMIR_WORD_TIMER = 77,
+    LAVUSHMIR_WORD_TIME_SCALE = 78,
+    LAVUSHMIR_WORD_PRINTER_DELAY = 79,
+    LAVUSHMIR_WORD_INSTALLED = 80,
+    LAVUSHMIR_WORD_PRINTER = 81, /* printer n: from word 81 + 5 n on STATUS,
+                                    COMMAND, DATA0, ticks left, paper count */
+    LAVUSHMIR_WORD_PENDING = 121,
+    LAVUSHMIR_WORD_ON_HAND = 122,
+    LAVUSHMIR_WORD_NEXT_SLOT = 123
+};
+
+/* Word `place` (0 to 123) of an image of LAVUSHMIR_IMAGE_BYTES bytes. */
+static inline uint32_t lavushmir_image_word(const uint8_t *image, unsigned place)
+{
+    const uint8_t *at = image + 5 + (size_t)4 * place;
+    return (uint32_t)at[0] << 24 | (uint32_t)at[1] << 16 | (uint32_t)at[2] << 8 | (uint32_t)at[3];
+}
 
 /* The number in an answer. */
 enum {
@@ -49,7 +119,7 @@ enum {
     LAVUSHMIR_BAD_PAPER = 3,
     /* journal is over 16,777,216 bytes or not a multiple of 256 (0 is allowed) */
     LAVUSHMIR_BAD_JOURNAL = 4,
-    /* image is not 501 bytes, or (not for reset) breaks a rule of document 01 */
+    /* image is not 501 bytes, or (not for reset) breaks a rule of the image */
     LAVUSHMIR_BAD_IMAGE = 5,
     /* reset: time scale not 1 to 255, printer delay not 1 to 65,535, installed
        map over 255; run: budget over 1,000,000 */
@@ -72,6 +142,37 @@ enum {
     /* the last step entered an exception, and the run was asked to stop there */
     LAVUSHMIR_EXCEPTION = 2
 };
+
+/* The answer's number in words: what is wrong, in one line. */
+static inline const char *lavushmir_text(unsigned number)
+{
+    switch (number) {
+    case LAVUSHMIR_DONE: return "done";
+    case LAVUSHMIR_BAD_RAM: return "RAM is not 1 to 4,096 whole frames of 4,096 bytes";
+    case LAVUSHMIR_BAD_ROM: return "a ROM is not 4 to 65,536 bytes, a multiple of 4";
+    case LAVUSHMIR_BAD_PAPER: return "paper is over 65,536 bytes or not a multiple of 8";
+    case LAVUSHMIR_BAD_JOURNAL:
+        return "journal is over 16,777,216 bytes or not a multiple of 256";
+    case LAVUSHMIR_BAD_IMAGE: return "image is not 501 bytes, or breaks a rule of the image";
+    case LAVUSHMIR_BAD_PARAMETER: return "a number is out of its range";
+    case LAVUSHMIR_NOT_ON_HAND: return "more steps are asked for than are on hand";
+    case LAVUSHMIR_BAD_RECORD: return "a record of the journal is not well formed";
+    case LAVUSHMIR_BAD_ADDRESS:
+        return "the address is not a multiple of 4 or lies in neither ROM";
+    default: return "no number of this header";
+    }
+}
+
+/* The answer's reason in words. */
+static inline const char *lavushmir_reason_text(unsigned reason)
+{
+    switch (reason) {
+    case LAVUSHMIR_NO_REASON: return "no reason";
+    case LAVUSHMIR_BUDGET_SPENT: return "the budget is spent";
+    case LAVUSHMIR_EXCEPTION: return "the last step entered an exception";
+    default: return "no reason of this header";
+    }
+}
 
 /* The number for yes or no: LAVUSHMIR_DONE or one of the refusals. */
 static inline unsigned lavushmir_number(uint64_t answer)
@@ -187,11 +288,21 @@ uint64_t lavushmir_run(uint8_t *image, size_t image_bytes,
  *   LAVUSHMIR_DONE           with the steps that were taken back, which are all
  *                            that were asked for, and LAVUSHMIR_NO_REASON.
  *
- * Everything is then as it was before those steps, but for the two words that
- * count the journal's records: steps on hand is lower by that many, and next
- * slot is turned back by as many. Steps that are run again leave the same
- * state. Journals that a run has written, lent with the RAM and paper that it
- * left, never give LAVUSHMIR_BAD_RECORD.
+ * What is given back is what the records say. They say the state before those
+ * steps, but for the two words that count the journal's records (steps on hand
+ * is lower by that many, next slot is turned back by as many), where:
+ *
+ *   - the image comes from a done reset and from runs and take-backs since, in
+ *     any order and with any numbers, and
+ *   - each of these was lent the same ROMs, RAM, paper and journal, as the call
+ *     before left them, and nobody wrote to image, RAM, paper or journal in
+ *     between.
+ *
+ * Then everything is as it was, the same steps run again leave the same state,
+ * and LAVUSHMIR_BAD_IMAGE and LAVUSHMIR_BAD_RECORD never come. A host that
+ * writes to RAM itself, as to load a program, does so before the first run; or
+ * it puts 0 into the image's word LAVUSHMIR_WORD_ON_HAND afterwards, so that
+ * steps from before can not be taken back.
  */
 uint64_t lavushmir_take_back(uint8_t *image, size_t image_bytes,
                              uint8_t *ram, size_t ram_bytes,
