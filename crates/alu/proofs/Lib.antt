@@ -1,4 +1,4 @@
-pub mod Binary
+pub mod Fits
 pub mod LogicBits
 pub mod Offsets
 pub mod Parts

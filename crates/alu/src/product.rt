@@ -1,4 +1,4 @@
-// MULT and MULTU, built up bit by bit.
+// MULT and MULTU, by one 64-bit product.
 use crate::sign::taken_apart;
 use crate::sign::with_sign64;
 ghost use mathlib.Core.Path.{_≡_};
@@ -25,23 +25,10 @@ pub fn multu(x: u32, y: u32) -> HiLo
     split_word(product(x, y))
 }
 
-// Each turn adds x, at the place of y's lowest bit that is left, where that bit is on.
 fn product(x: u32, y: u32) -> u64
     ensures { λ r. ⌜ r ≡ x * y ⌝ }
 {
-    let mut sum: u64 = 0;
-    let mut place = x as u64;
-    let mut left = y;
-    let mut turn: u32 = 0;
-    while turn < 32 {
-        if left % 2 == 1 {
-            sum += place;
-        }
-        place *= 2;
-        left /= 2;
-        turn += 1;
-    }
-    sum
+    x as u64 * y as u64
 }
 
 fn split_word(p: u64) -> HiLo

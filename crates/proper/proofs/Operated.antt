@@ -12,7 +12,7 @@ use lib.Pow.{shr-le}
 use lib.Signed.{ltZ, quotZ, remZ, shrZ}
 use Rattle.word.specs.Number.{signed, bits, within, extended}
 use Rattle.word.proofs.Cond.{picked}
-use Rattle.alu.proofs.Binary.{product-fits}
+use Rattle.alu.proofs.Fits.{product-fits}
 use Rattle.alu.specs.HiLo.{split}
 use Rattle.alu.specs.Jumps.{branchOf, jumpOf, linkOf}
 use Rattle.alu.specs.Logic.{immediate, luiOf}
