@@ -25,6 +25,17 @@ use_archive() {
     export LAVUSHMIR_ARCHIVE_DIR LAVUSHMIR_ARCHIVE_SUM
 }
 
+# After use_archive: tells the build where the archive of what only tests ask is,
+# a file named libprobe.a beside the other.
+use_probe() {
+    if [ ! -f "$LAVUSHMIR_ARCHIVE_DIR/libprobe.a" ]; then
+        echo "$0: no file named libprobe.a: $LAVUSHMIR_ARCHIVE_DIR" >&2
+        exit 2
+    fi
+    LAVUSHMIR_ARCHIVE_SUM="$LAVUSHMIR_ARCHIVE_SUM $(cksum < "$LAVUSHMIR_ARCHIVE_DIR/libprobe.a")"
+    export LAVUSHMIR_ARCHIVE_SUM
+}
+
 # Builds the package of the current folder, and runs its program.
 run_program() {
     case $(uname -m) in

@@ -4,7 +4,7 @@
 //! `--strict`, a ratio above the limit.
 
 #[allow(dead_code)]
-#[path = "../../tests/shared/lavushmir.rs"]
+#[path = "../../tests/common/lavushmir.rs"]
 mod lavushmir;
 
 mod archive;

@@ -1,6 +1,7 @@
 #!/bin/sh
-# Compiles the header from C99 and from C++11 with all warnings as errors,
-# links the programs with the archive, and runs them.
+# Holds the names that the archive defines to the header, compiles the header
+# from C99 and from C++11 with all warnings as errors, links the programs with
+# the archive, and runs them.
 #
 #     tests/c/run.sh ARCHIVE
 #
@@ -35,6 +36,8 @@ esac
 scratch=$(mktemp -d)
 trap 'rm -rf "$scratch"' EXIT
 warnings="-Wall -Wextra -pedantic -Werror"
+
+"$here/exports.sh" "$archive"
 
 # The header needs no other header before it, and may be included twice.
 printf '#include "lavushmir.h"\n#include "lavushmir.h"\n' > "$scratch/header.c"

@@ -3,8 +3,8 @@
 #
 #     tests/calls/run.sh ARCHIVE [SEED]
 #
-# ARCHIVE is the x86-64 archive, a file named liblavushmir.a; for Arm see
-# tests/archive.sh. It has to hold the exports for tests as well.
+# ARCHIVE is the x86-64 archive, a file named liblavushmir.a, with libprobe.a, the
+# archive of what only tests ask, beside it; for Arm see tests/archive.sh.
 set -eu
 
 if [ $# -lt 1 ] || [ $# -gt 2 ]; then
@@ -13,6 +13,7 @@ if [ $# -lt 1 ] || [ $# -gt 2 ]; then
 fi
 . "$(dirname "$0")/../archive.sh"
 use_archive "$1"
+use_probe
 shift
 cd "$(dirname "$0")"
 run_program "$@"

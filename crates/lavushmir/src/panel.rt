@@ -1,13 +1,11 @@
 // The calls for C, as include/lavushmir.h declares them.
-ghost use mathlib.Core.Path.{_≡_};
-ghost use Rattle.lavushmir.specs.Answer.{packedOf};
-ghost use Rattle.lavushmir.specs.Reset.{PackedResetIs};
-ghost use Rattle.lavushmir.specs.Run.{runLeaves, PackedRunIs};
-ghost use Rattle.lavushmir.specs.Back.{backLeaves, PackedBackIs};
-use crate::answer::packed;
-use crate::backward::take_back;
-use crate::forward::run;
-use crate::reset::reset;
+ghost use Rattle.lavushmir.specs.Panel.{PackedResetIs, PackedRunIs, PackedBackIs};
+ghost use Rattle.forward.specs.Run.{runLeaves};
+ghost use Rattle.backward.specs.Back.{backLeaves};
+use answer::packed;
+use backward::take_back;
+use forward::run;
+use reset::reset;
 
 #[no_mangle]
 pub extern "C" fn lavushmir_reset(

@@ -60,11 +60,11 @@ mod words;
 #[path = "../../run/src/wrong.rs"]
 mod wrong;
 
-#[path = "../../shared/dice.rs"]
+#[path = "../../common/dice.rs"]
 mod dice;
-#[path = "../../shared/guarded.rs"]
+#[path = "../../common/guarded.rs"]
 mod guarded;
-#[path = "../../shared/lavushmir.rs"]
+#[path = "../../common/lavushmir.rs"]
 mod lavushmir;
 
 mod asked;

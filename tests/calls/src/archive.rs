@@ -4,7 +4,8 @@
 use crate::guarded::Guarded;
 use crate::lavushmir;
 
-// Exported for these tests only.
+// From an archive of its own, for these tests only.
+#[link(name = "probe", kind = "static")]
 extern "C" {
     fn lavushmir_test_rules(image: *const u8, image_bytes: usize, paper: u64, journal: u64) -> u64;
     fn lavushmir_test_rom_answer(

@@ -3,12 +3,12 @@
 //!
 //! `calls [SEED]`. Exit 0: all equal and all counts met; 1: not so.
 
-#[path = "../../shared/dice.rs"]
+#[path = "../../common/dice.rs"]
 mod dice;
-#[path = "../../shared/guarded.rs"]
+#[path = "../../common/guarded.rs"]
 mod guarded;
 #[allow(dead_code)]
-#[path = "../../shared/lavushmir.rs"]
+#[path = "../../common/lavushmir.rs"]
 mod lavushmir;
 
 mod archive;

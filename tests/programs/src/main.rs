@@ -4,10 +4,10 @@
 //! `programs FOLDER [SEED]`; compile.sh fills the folder. Exit 0: all equal.
 
 #[allow(dead_code)]
-#[path = "../../shared/dice.rs"]
+#[path = "../../common/dice.rs"]
 mod dice;
 #[allow(dead_code)]
-#[path = "../../shared/lavushmir.rs"]
+#[path = "../../common/lavushmir.rs"]
 mod lavushmir;
 
 mod elf;

@@ -6,15 +6,15 @@
 #[path = "../../calls/src/breaches.rs"]
 mod breaches;
 #[allow(dead_code)]
-#[path = "../../shared/dice.rs"]
+#[path = "../../common/dice.rs"]
 mod dice;
 #[allow(dead_code)]
 #[path = "../../calls/src/fields.rs"]
 mod fields;
-#[path = "../../shared/guarded.rs"]
+#[path = "../../common/guarded.rs"]
 mod guarded;
 #[allow(dead_code)]
-#[path = "../../shared/lavushmir.rs"]
+#[path = "../../common/lavushmir.rs"]
 mod lavushmir;
 #[allow(dead_code)]
 #[path = "../../calls/src/report.rs"]

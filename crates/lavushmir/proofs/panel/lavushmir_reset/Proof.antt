@@ -1,6 +1,6 @@
 -- `lavushmir::panel::lavushmir_reset` meets its contract.
 use mathlib.Core.Path.{ap, _∙_}
-use Rattle.lavushmir.specs.Answer.{packedOf}
+use Rattle.answer.specs.Answer.{packedOf}
 use borrow.Author.Needs.{needs}
 use Rattle.lavushmir.proofs.panel.lavushmir_reset.Statement.{statement}
 use Rattle.lavushmir.proofs.panel.lavushmir_reset.Tie as tie

@@ -1,7 +1,5 @@
 -- `lavushmir_run` meets its contract: the parts of the one equation.
-use mathlib.Core.Path.{ap, _∙_}
-use Rattle.lavushmir.specs.Answer.{packedOf}
-use Rattle.lavushmir.specs.Run.{Left}
+use Rattle.lavushmir.proofs.Packed.{packed-run}
 use borrow.Author.Needs.{needs}
 use Rattle.lavushmir.proofs.panel.lavushmir_run.Statement.{statement}
 use Rattle.lavushmir.proofs.panel.lavushmir_run.Tie as tie
@@ -27,14 +25,7 @@ same-length-4 c = search needs
 returns : tie.Need-returns
 returns c =
     let ran = c .before .before .before .before .before .before .before .before .before in
-    let e = ran .run .ensures in
-    record {
-      answer-is = c .packed .ensures ∙ ap (λ (l : Left). packedOf (l .answer)) e;
-      image-is = ap (λ (l : Left). l .image) e;
-      ram-is = ap (λ (l : Left). l .ram) e;
-      paper-is = ap (λ (l : Left). l .paper) e;
-      journal-is = ap (λ (l : Left). l .journal) e;
-    }
+    packed-run (ran .run .ensures) (c .packed .ensures)
 
 pub lavushmir-run-spec : {M : Type 1} → statement M
 lavushmir-run-spec =

@@ -1,7 +1,5 @@
 -- `lavushmir_take_back` meets its contract: the parts of the one equation.
-use mathlib.Core.Path.{ap, _∙_}
-use Rattle.lavushmir.specs.Answer.{packedOf}
-use Rattle.lavushmir.specs.Back.{LeftBack}
+use Rattle.lavushmir.proofs.Packed.{packed-back}
 use borrow.Author.Needs.{needs}
 use Rattle.lavushmir.proofs.panel.lavushmir_take_back.Statement.{statement}
 use Rattle.lavushmir.proofs.panel.lavushmir_take_back.Tie as tie
@@ -24,13 +22,7 @@ same-length-3 c = search needs
 returns : tie.Need-returns
 returns c =
     let took = c .before .before .before .before .before .before .before in
-    let e = took .take-back .ensures in
-    record {
-      answer-is = c .packed .ensures ∙ ap (λ (l : LeftBack). packedOf (l .answer)) e;
-      image-is = ap (λ (l : LeftBack). l .image) e;
-      ram-is = ap (λ (l : LeftBack). l .ram) e;
-      paper-is = ap (λ (l : LeftBack). l .paper) e;
-    }
+    packed-back (took .take-back .ensures) (c .packed .ensures)
 
 pub lavushmir-take-back-spec : {M : Type 1} → statement M
 lavushmir-take-back-spec =

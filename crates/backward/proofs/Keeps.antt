@@ -1,0 +1,173 @@
+-- EVERY IMAGE THAT A DONE TAKE-BACK WRITES KEEPS THE RULES, and what is lent stays as long as it was: from any image that is accepted, and any journal, whatever
+-- steps its records are of or if they are of none.
+use Prim.Native.Nat.{ℕ, zero, suc, _+_, _*_, _^_, _≤_, _<_, max}
+use native.Mathlib.Decide.{ℕ-discrete}
+use native.Mathlib.Nat.{sub-zero}
+use native.Mathlib.Omega.{arith}
+use mathlib.Core.Path.{_≡_, refl, sym, ap, subst, _∙_}
+use mathlib.Core.Bool.{true}
+use mathlib.Core.List.{List}
+use borrow.Author.Tests.{leb-true, le-leb}
+use lib.ListN.{length, drop, length-take}
+use Rattle.word.specs.Lists.{Below}
+use Rattle.word.proofs.Cond.{both}
+use Rattle.ring.specs.Slots.{Ring, Sound, slot, slotBack, lowered}
+use Rattle.ring.specs.Back as ring
+use Rattle.ring.specs.Back.{undone, allFit}
+use Rattle.ring.proofs.Slots.{back-below, back-on, slot-at, length-slot, sound-lowered}
+use Rattle.ring.proofs.Back.{undone-none}
+use Rattle.record.specs.Layout.{recordOf}
+use Rattle.journal.specs.Journal.{slotsOf, ringOf}
+use Rattle.state.specs.Layout.{bytesOf, machineOf}
+use Rattle.rules.specs.Rules.{goodImage}
+use Rattle.rules.proofs.Good.{good-same}
+use Rattle.step.specs.World.{World, worldIn}
+use Rattle.good.specs.Good.{Good}
+use Rattle.good.proofs.Belows.{below-any}
+use Rattle.undo.specs.Undo.{View}
+use Rattle.undo.proofs.Laws.{cored}
+use Rattle.undo.proofs.Typed.{good-back}
+use Rattle.back.specs.Back as back
+use Rattle.back.specs.Back.{noRoms}
+use Rattle.answer.specs.declared.Reason.the-variants.{NoReason}
+use Rattle.answer.specs.declared.Answer.the-variants.{Done}
+use Rattle.answer.specs.Answer.{packedOf}
+use Rattle.answer.specs.Lent.{ramFits, paperFits, journalFits}
+use Rattle.accepted.specs.After.{machineAfter}
+use Rattle.backward.specs.Back.{LeftBack, leftBackOf, doneBack, backLeaves}
+use Rattle.accepted.proofs.Start.{few-slots, ring-sound, image-mark, start-good}
+use Rattle.accepted.proofs.End.{end-bytes}
+use Rattle.accepted.proofs.End.{end-good}
+use Rattle.backward.proofs.Theorems.{backNumber, number-0, no-other, refused-same, doneLeaves, done-is, done-steps}
+
+slot-bytes : (size : ℕ) (bytes : List ℕ) (x : ℕ) → Below 256 bytes → Below 256 (slot size bytes x)
+slot-bytes size bytes x small i h =
+    let low : i < size = omega (arith, length-take size (drop (size * x) bytes)) in
+    rw (slot-at size bytes x i low) (below-any bytes small (omega arith) (size * x + i))
+
+-- ---- records undone one by one, over n slots that lie in the journal
+
+module _ (n : ℕ) (journal : List ℕ) (next : ℕ) (w : World) where
+  abbrev before : ℕ → World
+  before k = undone (back.both noRoms) n journal next k w
+
+  before-ram : (k : ℕ) → length (before k .ram) ≡ length (w .ram)
+  unfolding undone
+  before-ram zero = refl
+  before-ram (suc k) =
+      ap (λ (v : View). v .ram) (cored (recordOf (ring.recordAt (back.both noRoms) n journal next k)) (before k)) ∙ before-ram k
+
+  before-paper : (k : ℕ) → length (before k .paper) ≡ length (w .paper)
+  unfolding undone
+  before-paper zero = refl
+  before-paper (suc k) =
+      ap (λ (v : View). v .paper) (cored (recordOf (ring.recordAt (back.both noRoms) n journal next k)) (before k)) ∙ before-paper k
+
+  module _ (room : 256 * n ≤ length journal) (place : next < max n 1) (small : Below 256 journal) (good : Good w) where
+    before-good : (k : ℕ) → k ≤ n → allFit (back.both noRoms) n journal next k w ≡ true → Good (before k)
+    unfolding undone allFit
+    before-good zero l e = good
+    before-good (suc k) l e =
+        let h = both _ _ e in
+        let x : ℕ = slotBack n next (suc k) in
+        let inside : x < n = back-below n next (suc k) (omega arith) l in
+        good-back (slot 256 journal x) (before k) (before-good k (omega arith) (h .0)) (slot-bytes 256 journal x small)
+        (length-slot 256 n journal room x inside) (h .1)
+
+-- ---- the call
+
+pub record BackKept (left : LeftBack) (ram paper journal : List ℕ) : Type 0 where
+  pub image-good : goodImage (left .image) (length paper) (length journal) ≡ true
+  pub ram-long : length (left .ram) ≡ length ram
+  pub paper-long : length (left .paper) ≡ length paper
+  pub image-bytes : Below 256 (left .image)
+  pub ram-bytes : Below 256 (left .ram)
+  pub paper-bytes : Below 256 (left .paper)
+
+module _ (image ram paper journal : List ℕ) (k : ℕ) (number : backNumber image ram paper journal k ≡ 0) where
+  abbrev start : Ring
+  start = ringOf (machineOf image .journal) journal
+
+  start-sound : Sound 256 (slotsOf journal) start
+  start-sound =
+      let t = number-0 image ram paper journal k .0 number in
+      ring-sound journal (machineOf image .journal) (image-mark image (length paper) (length journal) (t .1 .1 .1 .0))
+
+  -- no more is taken back than is on hand
+  near : k ≤ start .hand
+  near = leb-true k (start .hand) (number-0 image ram paper journal k .0 number .1 .1 .1 .1 .0)
+
+  -- what is lent is bytes
+  module _ (image-are : Below 256 image) (ram-are : Below 256 ram) (paper-are : Below 256 paper) (journal-are : Below 256 journal) where
+    abbrev older : World
+    older = before (slotsOf journal) journal (start .next) (worldIn (machineOf image) ram paper) k
+
+    older-good : Good older
+    older-good =
+        let t = number-0 image ram paper journal k .0 number in
+        let s = start-sound in
+        before-good (slotsOf journal) journal (start .next) (worldIn (machineOf image) ram paper) (s .room) (s .place) journal-are
+        (start-good image ram paper (length journal) (t .1 .1 .1 .0) image-are ram-are paper-are) k (omega (arith, near, s .most)) (t .1 .1 .1 .1 .1)
+
+    done-kept : BackKept (doneLeaves image ram paper journal k) ram paper journal
+    done-kept =
+        let n = slotsOf journal in
+        let g = lowered n k start in
+        let few = few-slots journal (number-0 image ram paper journal k .0 number .1 .1 .0) in
+        let sound = sound-lowered 256 n k start near start-sound in
+        let long = before-paper n journal (start .next) (worldIn (machineOf image) ram paper) k in
+        record {
+          image-good = subst (λ (l : ℕ). goodImage (bytesOf (machineAfter older g)) l (length journal) ≡ true) long (end-good older g n few older-good sound refl);
+          ram-long = before-ram n journal (start .next) (worldIn (machineOf image) ram paper) k;
+          paper-long = long;
+          image-bytes = end-bytes older g n few older-good sound;
+          ram-bytes = older-good .ram;
+          paper-bytes = older-good .paper;
+        }
+
+    -- THE THEOREM
+    pub back-kept : BackKept (backLeaves image ram paper journal k) ram paper journal
+    back-kept = subst (λ (l : LeftBack). BackKept l ram paper journal) (sym (done-is image ram paper journal k number)) done-kept
+
+-- done or refused, the answer fits in the 64 bits that it is packed in
+pub packed-fits : (image ram paper journal : List ℕ) (k : ℕ) → packedOf (backLeaves image ram paper journal k .answer) < 2 ^ 64
+packed-fits image ram paper journal k = by (ℕ-discrete number 0)
+  where
+    left : LeftBack
+    left = backLeaves image ram paper journal k
+
+    number : ℕ
+    number = backNumber image ram paper journal k
+
+    by : Dec (number ≡ 0) → packedOf (left .answer) < 2 ^ 64
+    by (yes e) =
+        let d = done-steps image ram paper journal k e in
+        let most = start-sound image ram paper journal k e .most in
+        let few = few-slots journal (number-0 image ram paper journal k .0 e .1 .1 .0) in
+        omega (arith, e, d .0, d .1, near image ram paper journal k e, most, few)
+    by (no h) =
+        let u = refused-same image ram paper journal k h in
+        omega (arith, no-other image ram paper journal k, u .no-steps, u .no-reason)
+
+-- ---- "take-back of 0 [is] done and change[s] nothing"
+
+module _ (image ram paper journal : List ℕ) (ram-fits : ramFits (length ram) ≡ true) (paper-fits : paperFits (length paper) ≡ true)
+    (journal-fits : journalFits (length journal) ≡ true) (good : goodImage image (length paper) (length journal) ≡ true) where
+  none-done : backNumber image ram paper journal 0 ≡ 0
+  unfolding allFit
+  none-done =
+      number-0 image ram paper journal 0 .1
+      (ram-fits, (paper-fits, (journal-fits, (good, (le-leb 0 (machineOf image .journal .«on_hand») (omega arith), refl)))))
+
+  pub back-none : Below 256 image → backLeaves image ram paper journal 0 ≡ leftBackOf (Done 0 NoReason) image ram paper
+  back-none small =
+      let m = machineOf image in
+      let n = slotsOf journal in
+      let w = worldIn m ram paper in
+      let next : slotBack n (m .journal .«next_slot») 0 ≡ m .journal .«next_slot» = back-on n (m .journal .«next_slot») 0 (omega arith) ∙ sub-zero (m .journal .«next_slot») in
+      let same : lowered n 0 (ringOf (m .journal) journal) ≡ ringOf (m .journal) journal =
+      λ i. record { bytes = journal; hand = sub-zero (m .journal .«on_hand») i; next = next i } in
+      done-is image ram paper journal 0 none-done
+      ∙ ap (λ (s : World). doneBack 0 s (lowered n 0 (ringOf (m .journal) journal))) (undone-none (back.both noRoms) n journal (m .journal .«next_slot») w)
+      ∙ ap (doneBack 0 w) same
+      ∙ ap (λ (b : List ℕ). leftBackOf (Done 0 NoReason) b ram paper) (good-same image (length paper) (length journal) small good)

@@ -1,0 +1,3 @@
+pub mod Backing
+pub mod Theorems
+pub mod Keeps

@@ -1,0 +1,119 @@
+// Take-back: some of the newest steps undone from their records in the journal.
+ghost use mathlib.Core.Path.{_≡_};
+ghost use Prim.Native.Nat.{_<_, _^_};
+ghost use lib.ListN.{length};
+ghost use Rattle.ring.specs.Back.{done};
+ghost use Rattle.back.specs.Back.{Fits};
+ghost use Rattle.state.specs.Layout.{machineOf};
+ghost use Rattle.backward.specs.Back.{buffersTest, ruleTest, leftBackOf, ToldIs, triedBack, leftBackBy, backLeaves};
+use answer::Answer;
+use answer::Reason;
+use answer::Refusal;
+use answer::lent::Test;
+use answer::lent::journal_fits;
+use answer::lent::paper_fits;
+use answer::lent::ram_fits;
+use rules::judged;
+use state::encode::encode;
+use state::machine::Machine;
+
+// Rows 1, 3 and 4: no ROM is lent.
+fn buffers_test(ram: usize, paper: usize, journal: usize) -> Test
+    ensures { λ r. ⌜ r ≡ buffersTest ram paper journal ⌝ }
+{
+    if !ram_fits(ram) {
+        return Test::Failed(Refusal::Ram);
+    }
+    if !paper_fits(paper) {
+        return Test::Failed(Refusal::Paper);
+    }
+    if !journal_fits(journal) {
+        return Test::Failed(Refusal::Journal);
+    }
+    Test::Passed
+}
+
+// What is answered; the image is written only where steps were taken back.
+fn told(answer: back::Answer, after: Machine, image: &mut [u8], steps: u64) -> Answer
+    requires { ⌜ length (now image) ≡ 501 ⌝ }
+    requires { ⌜ (Rattle.back.specs.Back.numberOf answer ≡ done → steps < 2 ^ 32) ⌝ }
+    ensures { λ r. ⌜ ToldIs answer after (now (image .entry)) steps r (now (image .exit)) ⌝ }
+{
+    match answer {
+        back::Answer::Done => {
+            encode(after, image);
+            Answer::Done(steps as u32, Reason::NoReason)
+        }
+        back::Answer::TooFar => Answer::Refused(Refusal::TooFar),
+        back::Answer::Bad => Answer::Refused(Refusal::BadRecord),
+    }
+}
+
+// Rows 7 and 8, with nothing else left to refuse.
+fn tried(
+    machine: Machine,
+    image: &mut [u8],
+    ram: &mut [u8],
+    paper: &mut [u8],
+    journal: &[u8],
+    steps: u64,
+) -> Answer
+    requires { ⌜ machine ≡ machineOf (now image) ⌝ }
+    requires { ⌜ length (now image) ≡ 501 ⌝ }
+    requires { ⌜ Fits (now paper) (now journal) machine ⌝ }
+    ensures { λ r. ⌜
+        leftBackOf r (now (image .exit)) (now (ram .exit)) (now (paper .exit))
+        ≡ triedBack (now (image .entry)) (now (ram .entry)) (now (paper .entry)) (now (journal .entry)) steps
+        ⌝ }
+{
+    let taken = back::take_back(machine, ram, paper, journal, steps);
+    let answer = taken.answer;
+    let after = taken.machine;
+    told(answer, after, image, steps)
+}
+
+// Row 5, of lengths that are allowed.
+fn with_image(
+    image: &mut [u8],
+    ram: &mut [u8],
+    paper: &mut [u8],
+    journal: &[u8],
+    steps: u64,
+) -> Answer
+    requires { ⌜ buffersTest (length (now ram)) (length (now paper)) (length (now journal)) ≡ Test.Passed ⌝ }
+    ensures { λ r. ⌜
+        leftBackOf r (now (image .exit)) (now (ram .exit)) (now (paper .exit))
+        ≡ leftBackBy (ruleTest (now (image .entry)) (length (now (paper .entry))) (length (now (journal .entry))))
+        (triedBack (now (image .entry)) (now (ram .entry)) (now (paper .entry)) (now (journal .entry)) steps)
+        (now (image .entry)) (now (ram .entry)) (now (paper .entry))
+        ⌝ }
+{
+    if image.len() != 501 {
+        return Answer::Refused(Refusal::Image);
+    }
+    let verdict = judged(image, paper.len(), journal.len());
+    if !verdict.keeps {
+        return Answer::Refused(Refusal::Image);
+    }
+    let machine = verdict.machine;
+    tried(machine, image, ram, paper, journal, steps)
+}
+
+pub fn take_back(
+    image: &mut [u8],
+    ram: &mut [u8],
+    paper: &mut [u8],
+    journal: &[u8],
+    steps: u64,
+) -> Answer
+    ensures { λ r. ⌜
+        leftBackOf r (now (image .exit)) (now (ram .exit)) (now (paper .exit))
+        ≡ backLeaves (now (image .entry)) (now (ram .entry)) (now (paper .entry)) (now (journal .entry)) steps
+        ⌝ }
+{
+    let test = buffers_test(ram.len(), paper.len(), journal.len());
+    match test {
+        Test::Failed(refusal) => Answer::Refused(refusal),
+        Test::Passed => with_image(image, ram, paper, journal, steps),
+    }
+}

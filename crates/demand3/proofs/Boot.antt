@@ -1,0 +1,82 @@
+-- Where a done reset with buffers of allowed lengths leaves the machine: in a good world, of which ring's laws hold, and with an empty journal.
+use Prim.Native.Nat.{ℕ, zero, suc, _%_, _<_}
+use native.Mathlib.Omega.{arith}
+use mathlib.Core.Path.{_≡_, refl, sym, ap, subst, _∙_}
+use mathlib.Core.List.{List}
+use borrow.Author.Tests.{leb-true}
+use lib.Dec.{eqb, leb}
+use lib.ListN.{length}
+use Rattle.word.specs.Lists.{Below}
+use Rattle.word.proofs.Cond as word
+use Rattle.ring.specs.Machine.{Laws, iterate}
+use Rattle.ring.proofs.History.{iterate-good}
+use Rattle.state.specs.Layout.{bytesOf, machineOf, WellTyped}
+use Rattle.state.specs.declared.machine.Machine.{Machine}
+use Rattle.state.proofs.RoundTrip.{decode-encode}
+use Rattle.step.specs.World.{World}
+use Rattle.good.specs.Good.{noMark}
+use Rattle.good.proofs.Lengths.{step-lengths}
+use Rattle.run.specs.Run.{forward}
+use Rattle.back.specs.Back.{both}
+use Rattle.back.specs.Allowed.{Allowed}
+use Rattle.back.proofs.Law.{laws}
+use Rattle.reset.specs.Reset.{resetMachine}
+use Rattle.demand3.specs.Demand3.{Boot, Booted, romsIn, resetTo, worldAt}
+use Rattle.reset.proofs.Answers.{in-range}
+use Rattle.reset.proofs.Keeps.{well-typed}
+use Rattle.reset.proofs.Theorems as reset
+use Rattle.accepted.proofs.Start.{lent-whole, image-bytes, start-good}
+
+module _ (b : Boot) (p : Booted b) where
+  abbrev machine : Machine
+  machine = resetMachine (b .scale) (b .delay) (b .installed)
+
+  typed : WellTyped machine
+  typed =
+      let h = reset.number-0 (b .image) (b .scale) (b .delay) (b .installed) .0 (p .reset-done) in
+      well-typed (b .scale) (b .delay) (b .installed) (in-range (b .scale) (b .delay) (b .installed) (h .1))
+
+  pub boot-image : resetTo b .image ≡ bytesOf machine
+  boot-image = reset.done-image (b .image) (b .scale) (b .delay) (b .installed) (p .reset-done)
+
+  pub boot-machine : machineOf (resetTo b .image) ≡ machine
+  boot-machine = ap machineOf boot-image ∙ decode-encode machine typed
+
+  -- "Reset empties it"
+  pub boot-mark : machineOf (resetTo b .image) .journal ≡ noMark
+  unfolding resetMachine
+  boot-mark = ap (λ (m : Machine). m .journal) boot-machine
+
+  boot-bytes : Below 256 (resetTo b .image)
+  boot-bytes = subst (λ (l : List ℕ). Below 256 l) (sym boot-image) (image-bytes machine typed)
+
+  pub boot-allowed : Allowed (romsIn b) (worldAt (resetTo b))
+  boot-allowed =
+      record {
+        good =
+            start-good (resetTo b .image) (b .ram) (b .paper) (length (b .journal))
+            (reset.done-keeps (b .image) (b .scale) (b .delay) (b .installed) (p .reset-done) (length (b .paper)) (length (b .journal)))
+            boot-bytes (p .ram-bytes) (p .paper-bytes);
+        whole = lent-whole (b .execution) (b .bootstrap) (b .ram) (p .ram-fits) (p .roms-fit);
+        short = leb-true (length (b .paper)) 65536 (word.both (leb (length (b .paper)) 65536) (eqb (length (b .paper) % 8) 0) (p .paper-fits) .0);
+      }
+
+  pub boot-laws : Laws (both (romsIn b)) (Allowed (romsIn b))
+  boot-laws = laws (romsIn b) (p .execution-bytes) (p .bootstrap-bytes)
+
+  -- ---- where iterating the step leads from there
+
+  abbrev later : ℕ → World
+  later m = iterate (forward (romsIn b)) m (worldAt (resetTo b))
+
+  pub later-allowed : (m : ℕ) → Allowed (romsIn b) (later m)
+  later-allowed = iterate-good (both (romsIn b)) (worldAt (resetTo b)) (length (b .journal)) boot-laws boot-allowed
+
+  pub later-long : (m : ℕ) → (length (later m .ram) ≡ length (b .ram)) × (length (later m .paper) ≡ length (b .paper))
+  later-long zero = (refl, refl)
+  later-long (suc m) =
+      let a = later-allowed m in
+      let some : 0 < length (later m .cpu .tlb) = omega (arith, a .good .typed .sized .tlb) in
+      let same = step-lengths (romsIn b) (later m) (a .whole) some in
+      let before = later-long m in
+      (same .ram ∙ before .0, same .paper ∙ before .1)

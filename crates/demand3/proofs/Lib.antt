@@ -1,0 +1,3 @@
+pub mod Boot
+pub mod Carried
+pub mod Demand3

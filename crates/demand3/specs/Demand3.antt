@@ -1,0 +1,149 @@
+-- DEMAND 3, over the bytes that the host lends: what calls of run and take-back in any order come to after a done reset. Stated over demand 2's definition:
+-- `iterate (forward roms)` is the step of document 01 iterated, with no journal, no budget and no stop.
+use Prim.Native.Nat.{ℕ, _+_, _≤_, _<_}
+use mathlib.Core.Path.{_≡_}
+use mathlib.Core.Logic.{_↔_}
+use mathlib.Core.Bool.{true, cond}
+use mathlib.Core.List.{List, [], _∷_}
+use lib.Dec.{leb}
+use lib.ListN.{length}
+use Rattle.word.specs.Lists.{Below}
+use Rattle.ring.specs.Machine.{iterate}
+use Rattle.ring.specs.Calls.{Event, ran, took, stepsRun, stepsTaken, net, held}
+use Rattle.journal.specs.Journal.{slotsOf}
+use Rattle.state.specs.Layout.{bytesOf, machineOf}
+use Rattle.step.specs.World.{World, Roms, romsOf, worldIn}
+use Rattle.good.specs.Good.{machineIn}
+use Rattle.run.specs.Run.{forward}
+use Rattle.answer.specs.Answer.{numberOf, stepsOf}
+use Rattle.answer.specs.Lent.{ramFits, romsFit, paperFits, journalFits}
+use Rattle.reset.specs.Reset.{resetAnswer, resetImage}
+use Rattle.forward.specs.Run.{Left, runLeaves}
+use Rattle.backward.specs.Back.{LeftBack, backLeaves}
+
+-- ---- the calls
+
+-- run is given a budget and whether to stop at exceptions, take-back a count: any numbers
+pub data Call : Type 0 where
+  run : ℕ → ℕ → Call
+  back : ℕ → Call
+
+-- What the host lends from call to call, as the calls leave it, with what their answers reported: the steps of each, the last call first. The ROMs are beside it,
+-- since no call writes them.
+pub record Host : Type 0 where
+  pub image : List ℕ
+  pub ram : List ℕ
+  pub paper : List ℕ
+  pub journal : List ℕ
+  pub events : List Event
+
+abbrev pub runNext : Roms → Host → ℕ → ℕ → Left
+runNext roms h budget stop = runLeaves (h .image) (roms .execution) (roms .bootstrap) (h .ram) (h .paper) (h .journal) budget stop
+
+abbrev pub backNext : Host → ℕ → LeftBack
+backNext h k = backLeaves (h .image) (h .ram) (h .paper) (h .journal) k
+
+abbrev pub ranTo : Host → Left → Host
+ranTo h left =
+    record {
+      image = left .image;
+      ram = left .ram;
+      paper = left .paper;
+      journal = left .journal;
+      events = ran (stepsOf (left .answer)) ∷ h .events;
+    }
+
+-- take-back "leaves the journal's bytes"
+abbrev pub tookTo : Host → LeftBack → Host
+tookTo h left =
+    record {
+      image = left .image;
+      ram = left .ram;
+      paper = left .paper;
+      journal = h .journal;
+      events = took (stepsOf (left .answer)) ∷ h .events;
+    }
+
+-- Each call does what its own statement says. A refused one counts for none: it reports 0 steps.
+unfoldable pub called : Roms → Call → Host → Host
+called roms (run budget stop) h = ranTo h (runNext roms h budget stop)
+called roms (back k) h = tookTo h (backNext h k)
+
+-- in order, the first at the head
+unfoldable pub calledAll : Roms → List Call → Host → Host
+calledAll roms [] h = h
+calledAll roms (c ∷ later) h = calledAll roms later (called roms c h)
+
+-- ---- the premises
+
+-- what the host lends, and reset's three parameters
+pub record Boot : Type 0 where
+  pub image : List ℕ
+  pub execution : List ℕ
+  pub bootstrap : List ℕ
+  pub ram : List ℕ
+  pub paper : List ℕ
+  pub journal : List ℕ
+  pub scale : ℕ
+  pub delay : ℕ
+  pub installed : ℕ
+
+-- lengths that rows 1 to 4 allow, bytes, and a reset that was done; the journal's own bytes do not matter
+pub record Booted (b : Boot) : Type 0 where
+  pub ram-fits : ramFits (length (b .ram)) ≡ true
+  pub roms-fit : romsFit (length (b .execution)) (length (b .bootstrap)) ≡ true
+  pub paper-fits : paperFits (length (b .paper)) ≡ true
+  pub journal-fits : journalFits (length (b .journal)) ≡ true
+  pub execution-bytes : Below 256 (b .execution)
+  pub bootstrap-bytes : Below 256 (b .bootstrap)
+  pub ram-bytes : Below 256 (b .ram)
+  pub paper-bytes : Below 256 (b .paper)
+  pub reset-done : numberOf (resetAnswer (b .image) (b .scale) (b .delay) (b .installed)) ≡ 0
+
+abbrev pub romsIn : Boot → Roms
+romsIn b = romsOf (b .execution) (b .bootstrap)
+
+-- "RAM, paper and journal are left"
+abbrev pub resetTo : Boot → Host
+resetTo b =
+    record {
+      image = resetImage (b .image) (b .scale) (b .delay) (b .installed);
+      ram = b .ram;
+      paper = b .paper;
+      journal = b .journal;
+      events = [];
+    }
+
+-- ---- the conclusions
+
+-- the machine of the image but for its two journal words, RAM and paper
+abbrev pub worldAt : Host → World
+worldAt h = worldIn (machineOf (h .image)) (h .ram) (h .paper)
+
+-- the world that iterating the step leads to, from where the reset left it: as many times as the answers say that steps were run less those taken back
+abbrev pub worldDue : Boot → Host → World
+worldDue b h = iterate (forward (romsIn b)) (net (h .events)) (worldAt (resetTo b))
+
+-- "Each step writes one 256-byte record at next slot; [..] on hand rises by one up to the number of slots. [..] Taking back k lowers on hand by k"
+abbrev pub handDue : Boot → Host → ℕ
+handDue b h = held (slotsOf (b .journal)) (h .events)
+
+-- of where calls led, and of any call that is made next
+pub record TakesBack (b : Boot) (h : Host) : Type 0 where
+  -- image (its two journal words apart), RAM and paper equal those of iterating the step, steps run less steps taken back: "restores all else"
+  pub world : worldAt h ≡ worldDue b h
+  -- byte for byte, with the two journal words as the image has them
+  pub image-is : h .image ≡ bytesOf (machineIn (worldDue b h) (machineOf (h .image) .journal))
+  -- the difference is never cut off at 0: what is on hand and what was taken back was all run
+  pub enough : handDue b h + stepsTaken (h .events) ≤ stepsRun (h .events)
+  pub hand : machineOf (h .image) .journal .«on_hand» ≡ handDue b h
+  -- 7: "take-back asks for more steps than are on hand"
+  pub too-far : (k : ℕ) → (numberOf (backNext h k .answer) ≡ 7) ↔ (handDue b h < k)
+  -- otherwise it is done: "8 never arises under demand 3's premises. Every image that reset, run or take-back writes keeps the rules, so 5 does not either."
+  pub back-done : (k : ℕ) → (numberOf (backNext h k .answer) ≡ 0) ↔ (k ≤ handDue b h)
+  -- "A done take-back of k reports k"
+  pub back-steps : (k : ℕ) → k ≤ handDue b h → stepsOf (backNext h k .answer) ≡ k
+  pub back-never-5 : (k : ℕ) → numberOf (backNext h k .answer) ≡ 5 → ⊥
+  pub back-never-8 : (k : ℕ) → numberOf (backNext h k .answer) ≡ 8 → ⊥
+  -- and run is refused for its budget alone, "over 1,000,000", and so never with 5
+  pub run-number : (budget stop : ℕ) → numberOf (runNext (romsIn b) h budget stop .answer) ≡ cond (leb budget 1000000) 0 6

@@ -1,0 +1,5 @@
+pub mod Running
+pub mod Theorems
+pub mod RunLaws
+pub mod Steps
+pub mod Keeps

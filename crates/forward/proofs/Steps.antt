@@ -1,0 +1,122 @@
+-- What a done run says of itself is so: it stands where that many steps lead, and its reason is why it took no more.
+use Prim.Native.Nat.{ℕ, suc, _-_, _^_, _≤_, _<_}
+use mathlib.Core.Path.{_≡_, refl, sym, ap, subst, _∙_}
+use mathlib.Core.Bool.{Bool, true, false, not, false≢true}
+use mathlib.Core.List.{List}
+use mathlib.Core.Logic.{_⊎_, inl, inr}
+use native.Mathlib.Decide.{ℕ-discrete}
+use native.Mathlib.Omega.{arith}
+use borrow.Author.Tests.{leb-true, eqb-false, ne-eqb}
+use lib.Dec.{eqb}
+use Rattle.word.proofs.Cond.{and-true}
+use Rattle.ring.specs.Machine.{iterate}
+use Rattle.ring.specs.Run.{Ran, spent, excepted}
+use Rattle.journal.specs.Journal.{slotsOf}
+use Rattle.state.specs.Layout.{bytesOf, machineOf}
+use Rattle.state.specs.declared.machine.Journal.{Journal}
+use Rattle.good.specs.Good.{machineIn}
+use Rattle.step.specs.World.{World, romsOf, worldIn}
+use Rattle.step.specs.Step.{raisesOf}
+use Rattle.run.specs.Run.{forward, configOf}
+use Rattle.answer.specs.declared.Answer.the-variants.{Done}
+use Rattle.answer.specs.Answer.{reasonNumber, reasonOf, stepsOf, packedOf}
+use Rattle.forward.specs.Run.{Left, leftOf, reasonNamed, ranOf, doneRun, runLeaves}
+use Rattle.accepted.specs.After.{machineAfter}
+use Rattle.forward.proofs.RunLaws.{Steps, run-steps}
+use Rattle.forward.proofs.Theorems.{runNumber, number-0, no-other, refused-same, done-is}
+
+-- the world of an image with what is lent, k steps later: no journal, no budget and no stop
+abbrev pub worldLater : (image execution bootstrap ram paper : List ℕ) → ℕ → World
+worldLater image execution bootstrap ram paper k = iterate (forward (romsOf execution bootstrap)) k (worldIn (machineOf image) ram paper)
+
+-- does the step from there enter an exception
+abbrev pub raisesLater : (image execution bootstrap ram paper : List ℕ) → ℕ → Bool
+raisesLater image execution bootstrap ram paper k = raisesOf (romsOf execution bootstrap) (worldLater image execution bootstrap ram paper k)
+
+-- Of what a run leaves, with the steps that it answers. Image, RAM and paper are those of that many steps. A run that says that its budget is spent took all
+-- of it; one that says that an exception ended it was asked to stop there, and its last step entered one; and a step that enters one, if that is asked, is the last.
+pub record RunSays (image execution bootstrap ram paper : List ℕ) (budget stop : ℕ) (left : Left) : Type 0 where
+  pub few : stepsOf (left .answer) ≤ budget
+  pub small : stepsOf (left .answer) < 2 ^ 32
+  pub image-is : (mark : Journal) × (left .image ≡ bytesOf (machineIn (worldLater image execution bootstrap ram paper (stepsOf (left .answer))) mark))
+  pub ram-is : left .ram ≡ worldLater image execution bootstrap ram paper (stepsOf (left .answer)) .ram
+  pub paper-is : left .paper ≡ worldLater image execution bootstrap ram paper (stepsOf (left .answer)) .paper
+  pub why : (reasonOf (left .answer) ≡ 1) ⊎ (reasonOf (left .answer) ≡ 2)
+  pub all : reasonOf (left .answer) ≡ 1 → stepsOf (left .answer) ≡ budget
+  pub last : reasonOf (left .answer) ≡ 2 →
+      (stop ≡ 0 → ⊥) × ((0 < stepsOf (left .answer)) × (raisesLater image execution bootstrap ram paper (stepsOf (left .answer) - 1) ≡ true))
+  pub first : (stop ≡ 0 → ⊥) → (i : ℕ) → i < stepsOf (left .answer) → raisesLater image execution bootstrap ram paper i ≡ true →
+      (suc i ≡ stepsOf (left .answer)) × (reasonOf (left .answer) ≡ 2)
+
+-- the two reasons of a run have the numbers that document 01 gives them
+named : (n : ℕ) → (n ≡ spent) ⊎ (n ≡ excepted) → reasonNumber (reasonNamed n) ≡ n
+named n (inl e) = rw e
+named n (inr e) = rw e
+
+asked : (t : Bool) → not t ≡ true → t ≡ false
+asked true e = absurd (false≢true e)
+asked false e = refl
+
+module _ (image execution bootstrap ram paper journal : List ℕ) (budget stop : ℕ) where
+  -- of any run that keeps the laws of a run
+  says-of : (r : Ran (forward (romsOf execution bootstrap))) → budget ≤ 1000000 →
+      Steps (forward (romsOf execution bootstrap)) budget (not (eqb stop 0)) (worldIn (machineOf image) ram paper) r →
+      RunSays image execution bootstrap ram paper budget stop
+      (leftOf (Done (r .taken) (reasonNamed (r .reason))) (bytesOf (machineAfter (r .config .state) (r .config .ring)))
+      (r .config .state .ram) (r .config .state .paper) (r .config .ring .bytes))
+  says-of r most s =
+      let g = r .config .ring in
+      let mark : Journal = record { «on_hand» = g .hand; «next_slot» = g .next } in
+      let is = named (r .reason) (s .why) in
+      record {
+        few = s .few;
+        small = omega (arith, s .few, most);
+        image-is = (mark, ap (λ (w : World). bytesOf (machineIn w mark)) (s .state));
+        ram-is = ap (λ (w : World). w .ram) (s .state);
+        paper-is = ap (λ (w : World). w .paper) (s .state);
+        why = rw is (s .why);
+        all = λ e. s .all (sym is ∙ e);
+        last = λ e. let l = s .last (sym is ∙ e) in (eqb-false stop 0 (asked (eqb stop 0) (l .0)), l .1);
+        first = λ on i l e.
+            let wanted : not (eqb stop 0) ≡ true = ap not (ne-eqb stop 0 on) in
+            let h = s .first i l (and-true wanted e) in
+            (h .0, is ∙ h .1);
+      }
+
+  done-says : budget ≤ 1000000 → RunSays image execution bootstrap ram paper budget stop (doneRun image execution bootstrap ram paper journal budget stop)
+  unfolding doneRun
+  done-says most =
+      let roms = romsOf execution bootstrap in
+      says-of (ranOf image execution bootstrap ram paper journal budget stop) most
+      (run-steps (forward roms) (slotsOf journal) (λ w. refl) budget (not (eqb stop 0)) (configOf roms (machineOf image) ram paper journal))
+
+  -- THE THEOREM
+  pub run-says : runNumber image execution bootstrap ram paper journal budget stop ≡ 0 →
+      RunSays image execution bootstrap ram paper budget stop (runLeaves image execution bootstrap ram paper journal budget stop)
+  run-says e =
+      let t = number-0 image execution bootstrap ram paper journal budget stop .0 e in
+      subst (λ (l : Left). RunSays image execution bootstrap ram paper budget stop l)
+      (sym (done-is image execution bootstrap ram paper journal budget stop e)) (done-says (leb-true budget 1000000 (t .1 .1 .1 .1 .1)))
+
+  -- done or refused, the answer fits in the 64 bits that it is packed in
+  pub packed-fits : packedOf (runLeaves image execution bootstrap ram paper journal budget stop .answer) < 2 ^ 64
+  packed-fits = by (ℕ-discrete number 0)
+    where
+      left : Left
+      left = runLeaves image execution bootstrap ram paper journal budget stop
+
+      number : ℕ
+      number = runNumber image execution bootstrap ram paper journal budget stop
+
+      small : number ≤ 6
+      small = no-other image execution bootstrap ram paper journal budget stop
+
+      fits : (reasonOf (left .answer) ≡ 1) ⊎ (reasonOf (left .answer) ≡ 2) → stepsOf (left .answer) < 2 ^ 32 → packedOf (left .answer) < 2 ^ 64
+      fits (inl e) h = omega (arith, small, e, h)
+      fits (inr e) h = omega (arith, small, e, h)
+
+      by : Dec (number ≡ 0) → packedOf (left .answer) < 2 ^ 64
+      by (yes e) = let s = run-says e in fits (s .why) (s .small)
+      by (no h) =
+          let u = refused-same image execution bootstrap ram paper journal budget stop h in
+          omega (arith, small, u .no-steps, u .no-reason)

@@ -1,0 +1,187 @@
+-- What run's statement amounts to: each number exactly where its row applies and no lower one does, refusals that write nothing, one answer only.
+use Prim.Native.Nat.{ℕ, zero, suc, _≤_}
+use mathlib.Core.Path.{_≡_, refl, sym, ap, subst, _∙_}
+use mathlib.Core.Logic.{_↔_}
+use mathlib.Core.Bool.{Bool, true, false, cond}
+use mathlib.Core.List.{List}
+use native.Mathlib.Omega.{arith}
+use lib.Dec.{leb}
+use lib.ListN.{length}
+use Rattle.rules.specs.Rules.{goodImage}
+use Rattle.answer.specs.declared.Refusal.the-variants.{Ram, Rom, Paper, Journal, Image, Range}
+use Rattle.answer.specs.declared.Answer.{Answer}
+use Rattle.answer.specs.declared.lent.Test.{Test}
+use Rattle.answer.specs.declared.lent.Test.the-variants.{Passed, Failed}
+use Rattle.answer.specs.Answer.{numberOf, reasonOf, stepsOf}
+use Rattle.answer.specs.Lent.{ramFits, romsFit, paperFits, journalFits, lentTest}
+use Rattle.forward.specs.Run.{imageTest, runTest, Left, leftOf, leftBy, doneRun, runLeaves}
+use Rattle.answer.specs.Lent.{andThen}
+
+-- ---- six tests in a row
+
+-- what a number says of six tests: it is that of the first that fails, and 0 where none does
+abbrev Says : ℕ → (a b c d e f : Bool) → Type 0
+Says zero a b c d e f = (a ≡ true) × ((b ≡ true) × ((c ≡ true) × ((d ≡ true) × ((e ≡ true) × (f ≡ true)))))
+Says (suc zero) a b c d e f = a ≡ false
+Says (suc (suc zero)) a b c d e f = (a ≡ true) × (b ≡ false)
+Says (suc (suc (suc zero))) a b c d e f = (a ≡ true) × ((b ≡ true) × (c ≡ false))
+Says (suc (suc (suc (suc zero)))) a b c d e f = (a ≡ true) × ((b ≡ true) × ((c ≡ true) × (d ≡ false)))
+Says (suc (suc (suc (suc (suc zero))))) a b c d e f = (a ≡ true) × ((b ≡ true) × ((c ≡ true) × ((d ≡ true) × (e ≡ false))))
+Says (suc (suc (suc (suc (suc (suc zero)))))) a b c d e f =
+    (a ≡ true) × ((b ≡ true) × ((c ≡ true) × ((d ≡ true) × ((e ≡ true) × (f ≡ false)))))
+Says (suc (suc (suc (suc (suc (suc (suc n))))))) a b c d e f = ⊥
+
+abbrev testOf : (a b c d e f : Bool) → Test
+testOf a b c d e f =
+    andThen (cond a (cond b (cond c (cond d Passed (Failed Journal)) (Failed Paper)) (Failed Rom)) (Failed Ram))
+    (cond e (cond f Passed (Failed Range)) (Failed Image))
+
+-- which tests led to which number, where what is done has the number 0
+module _ (done : Left) (zeroed : numberOf (done .answer) ≡ 0) (image ram paper journal : List ℕ) where
+  abbrev numbered : Test → ℕ
+  numbered t = numberOf (leftBy t done image ram paper journal .answer)
+
+  by-number : (a b c d e f : Bool) → Says (numbered (testOf a b c d e f)) a b c d e f
+  by-number true true true true true true =
+      subst (λ (n : ℕ). Says n true true true true true true) (sym zeroed) (refl, (refl, (refl, (refl, (refl, refl)))))
+  by-number true true true true true false = (refl, (refl, (refl, (refl, (refl, refl)))))
+  by-number true true true true false f = (refl, (refl, (refl, (refl, refl))))
+  by-number true true true false e f = (refl, (refl, (refl, refl)))
+  by-number true true false d e f = (refl, (refl, refl))
+  by-number true false c d e f = (refl, refl)
+  by-number false b c d e f = refl
+
+  -- and back
+  by-tests : (n : ℕ) (a b c d e f : Bool) → Says n a b c d e f → numbered (testOf a b c d e f) ≡ n
+  by-tests zero a b c d e f s = rw (s .0, s .1 .0, s .1 .1 .0, s .1 .1 .1 .0, s .1 .1 .1 .1 .0, s .1 .1 .1 .1 .1) zeroed
+  by-tests (suc zero) a b c d e f s = rw s
+  by-tests (suc (suc zero)) a b c d e f s = rw (s .0, s .1)
+  by-tests (suc (suc (suc zero))) a b c d e f s = rw (s .0, s .1 .0, s .1 .1)
+  by-tests (suc (suc (suc (suc zero)))) a b c d e f s = rw (s .0, s .1 .0, s .1 .1 .0, s .1 .1 .1)
+  by-tests (suc (suc (suc (suc (suc zero))))) a b c d e f s = rw (s .0, s .1 .0, s .1 .1 .0, s .1 .1 .1 .0, s .1 .1 .1 .1)
+  by-tests (suc (suc (suc (suc (suc (suc zero)))))) a b c d e f s =
+      rw (s .0, s .1 .0, s .1 .1 .0, s .1 .1 .1 .0, s .1 .1 .1 .1 .0, s .1 .1 .1 .1 .1)
+  by-tests (suc (suc (suc (suc (suc (suc (suc n))))))) a b c d e f s = absurd s
+
+at-most : (n : ℕ) (a b c d e f : Bool) → Says n a b c d e f → n ≤ 6
+at-most zero a b c d e f s = omega arith
+at-most (suc zero) a b c d e f s = omega arith
+at-most (suc (suc zero)) a b c d e f s = omega arith
+at-most (suc (suc (suc zero))) a b c d e f s = omega arith
+at-most (suc (suc (suc (suc zero)))) a b c d e f s = omega arith
+at-most (suc (suc (suc (suc (suc zero))))) a b c d e f s = omega arith
+at-most (suc (suc (suc (suc (suc (suc zero)))))) a b c d e f s = omega arith
+at-most (suc (suc (suc (suc (suc (suc (suc n))))))) a b c d e f s = absurd s
+
+-- ---- a refusal
+
+-- every byte is as it was, and nothing was run
+pub record Unchanged (left : Left) (image ram paper journal : List ℕ) : Type 0 where
+  pub image-same : left .image ≡ image
+  pub ram-same : left .ram ≡ ram
+  pub paper-same : left .paper ≡ paper
+  pub journal-same : left .journal ≡ journal
+  pub no-steps : stepsOf (left .answer) ≡ 0
+  pub no-reason : reasonOf (left .answer) ≡ 0
+
+unchanged : (t : Test) (done : Left) (image ram paper journal : List ℕ) → numberOf (done .answer) ≡ 0 →
+    let left = leftBy t done image ram paper journal in (numberOf (left .answer) ≡ 0 → ⊥) → Unchanged left image ram paper journal
+unchanged Passed done image ram paper journal zeroed h = absurd (h zeroed)
+unchanged (Failed refusal) done image ram paper journal zeroed h =
+    record { image-same = refl; ram-same = refl; paper-same = refl; journal-same = refl; no-steps = refl; no-reason = refl }
+
+-- ---- the call
+
+module _ (image execution bootstrap ram paper journal : List ℕ) (budget stop : ℕ) where
+  abbrev left : Left
+  left = runLeaves image execution bootstrap ram paper journal budget stop
+
+  abbrev done : Left
+  done = doneRun image execution bootstrap ram paper journal budget stop
+
+  abbrev pub runNumber : ℕ
+  runNumber = numberOf (left .answer)
+
+  done-zero : numberOf (done .answer) ≡ 0
+  unfolding doneRun
+  done-zero = refl
+
+  -- rows 1 to 6 of the numbers, as tests
+  abbrev row-1 : Bool
+  row-1 = ramFits (length ram)
+
+  abbrev row-2 : Bool
+  row-2 = romsFit (length execution) (length bootstrap)
+
+  abbrev row-3 : Bool
+  row-3 = paperFits (length paper)
+
+  abbrev row-4 : Bool
+  row-4 = journalFits (length journal)
+
+  abbrev row-5 : Bool
+  row-5 = goodImage image (length paper) (length journal)
+
+  abbrev row-6 : Bool
+  row-6 = leb budget 1000000
+
+  says : Says runNumber row-1 row-2 row-3 row-4 row-5 row-6
+  unfolding runLeaves lentTest imageTest
+  says = by-number done done-zero image ram paper journal row-1 row-2 row-3 row-4 row-5 row-6
+
+  -- each number is answered exactly when its row fails and no lower row does
+  exact : (n : ℕ) → (runNumber ≡ n) ↔ Says n row-1 row-2 row-3 row-4 row-5 row-6
+  unfolding runLeaves lentTest imageTest
+  exact n = (
+    λ h. subst (λ (k : ℕ). Says k row-1 row-2 row-3 row-4 row-5 row-6) h says,
+    λ h. by-tests done done-zero image ram paper journal n row-1 row-2 row-3 row-4 row-5 row-6 h,
+  )
+
+  pub number-1 : (runNumber ≡ 1) ↔ (row-1 ≡ false)
+  number-1 = exact 1
+
+  pub number-2 : (runNumber ≡ 2) ↔ ((row-1 ≡ true) × (row-2 ≡ false))
+  number-2 = exact 2
+
+  pub number-3 : (runNumber ≡ 3) ↔ ((row-1 ≡ true) × ((row-2 ≡ true) × (row-3 ≡ false)))
+  number-3 = exact 3
+
+  pub number-4 : (runNumber ≡ 4) ↔ ((row-1 ≡ true) × ((row-2 ≡ true) × ((row-3 ≡ true) × (row-4 ≡ false))))
+  number-4 = exact 4
+
+  pub number-5 : (runNumber ≡ 5) ↔ ((row-1 ≡ true) × ((row-2 ≡ true) × ((row-3 ≡ true) × ((row-4 ≡ true) × (row-5 ≡ false)))))
+  number-5 = exact 5
+
+  pub number-6 : (runNumber ≡ 6) ↔ ((row-1 ≡ true) × ((row-2 ≡ true) × ((row-3 ≡ true) × ((row-4 ≡ true) × ((row-5 ≡ true) × (row-6 ≡ false))))))
+  number-6 = exact 6
+
+  pub number-0 : (runNumber ≡ 0) ↔ ((row-1 ≡ true) × ((row-2 ≡ true) × ((row-3 ≡ true) × ((row-4 ≡ true) × ((row-5 ≡ true) × (row-6 ≡ true))))))
+  number-0 = exact 0
+
+  -- and no other number
+  pub no-other : runNumber ≤ 6
+  no-other = at-most runNumber row-1 row-2 row-3 row-4 row-5 row-6 says
+
+  -- a refusal leaves every byte as it was
+  pub refused-same : (runNumber ≡ 0 → ⊥) → Unchanged left image ram paper journal
+  unfolding runLeaves
+  refused-same h = unchanged (runTest image execution bootstrap ram paper journal budget) done image ram paper journal done-zero h
+
+  passed : runNumber ≡ 0 → runTest image execution bootstrap ram paper journal budget ≡ Passed
+  unfolding lentTest imageTest
+  passed e =
+      let h = number-0 .0 e in
+      rw (h .0, h .1 .0, h .1 .1 .0, h .1 .1 .1 .0, h .1 .1 .1 .1 .0, h .1 .1 .1 .1 .1)
+
+  -- what is not refused is run
+  pub done-is : runNumber ≡ 0 → left ≡ done
+  unfolding runLeaves
+  done-is e = ap (λ (t : Test). leftBy t done image ram paper journal) (passed e)
+
+  -- what two calls answer and leave that both keep the contract is the same
+  pub one-answer : {r₁ r₂ : Answer} {image₁ image₂ ram₁ ram₂ paper₁ paper₂ journal₁ journal₂ : List ℕ} →
+      leftOf r₁ image₁ ram₁ paper₁ journal₁ ≡ left → leftOf r₂ image₂ ram₂ paper₂ journal₂ ≡ left →
+      (r₁ ≡ r₂) × ((image₁ ≡ image₂) × ((ram₁ ≡ ram₂) × ((paper₁ ≡ paper₂) × (journal₁ ≡ journal₂))))
+  one-answer p q =
+      let e = p ∙ sym q in
+      (ap (λ (l : Left). l .answer) e, (ap (λ (l : Left). l .image) e, (ap (λ (l : Left). l .ram) e, (ap (λ (l : Left). l .paper) e, ap (λ (l : Left). l .journal) e))))

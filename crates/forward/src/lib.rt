@@ -1,0 +1,141 @@
+// Run: some steps of the machine of an image, with the records of the newest in the journal.
+ghost use mathlib.Core.Path.{_≡_};
+ghost use lib.ListN.{length};
+ghost use Rattle.run.specs.Run.{Fits};
+ghost use Rattle.state.specs.Layout.{machineOf};
+ghost use Rattle.answer.specs.Lent.{lentTest};
+ghost use Rattle.forward.specs.Run.{imageTest, leftOf, leftBy, reasonNamed, doneRun, runLeaves};
+use answer::Answer;
+use answer::Reason;
+use answer::Refusal;
+use answer::lent::Test;
+use answer::lent::lent_test;
+use rules::judged;
+use run::Stop;
+use state::encode::encode;
+use state::machine::Machine;
+
+fn reason(why: Stop) -> Reason
+    ensures { λ r. ⌜ r ≡ reasonNamed (Rattle.run.specs.Run.reasonOf why) ⌝ }
+{
+    match why {
+        Stop::Budget => Reason::BudgetSpent,
+        Stop::Exception => Reason::Exception,
+    }
+}
+
+// With nothing left to refuse.
+fn done(
+    machine: Machine,
+    image: &mut [u8],
+    execution: &[u8],
+    bootstrap: &[u8],
+    ram: &mut [u8],
+    paper: &mut [u8],
+    journal: &mut [u8],
+    budget: u32,
+    stop: u64,
+) -> Answer
+    requires { ⌜ machine ≡ machineOf (now image) ⌝ }
+    requires { ⌜ length (now image) ≡ 501 ⌝ }
+    requires { ⌜ Fits (now execution) (now bootstrap) (now ram) (now paper) (now journal) machine ⌝ }
+    ensures { λ r. ⌜
+        leftOf r (now (image .exit)) (now (ram .exit)) (now (paper .exit)) (now (journal .exit))
+        ≡ doneRun (now (image .entry)) (now (execution .entry)) (now (bootstrap .entry)) (now (ram .entry)) (now (paper .entry)) (now (journal .entry)) budget stop
+        ⌝ }
+{
+    let ran = run::run(
+        machine,
+        execution,
+        bootstrap,
+        ram,
+        paper,
+        journal,
+        budget,
+        stop != 0,
+    );
+    let after = ran.machine;
+    let why = ran.why;
+    encode(after, image);
+    Answer::Done(ran.steps, reason(why))
+}
+
+// Rows 5 and 6, of lengths that are allowed.
+fn with_image(
+    image: &mut [u8],
+    execution: &[u8],
+    bootstrap: &[u8],
+    ram: &mut [u8],
+    paper: &mut [u8],
+    journal: &mut [u8],
+    budget: u64,
+    stop: u64,
+) -> Answer
+    requires { ⌜ lentTest (length (now execution)) (length (now bootstrap)) (length (now ram)) (length (now paper)) (length (now journal)) ≡ Test.Passed ⌝ }
+    ensures { λ r. ⌜
+        leftOf r (now (image .exit)) (now (ram .exit)) (now (paper .exit)) (now (journal .exit))
+        ≡ leftBy (imageTest (now (image .entry)) (length (now (paper .entry))) (length (now (journal .entry))) budget)
+        (doneRun (now (image .entry)) (now (execution .entry)) (now (bootstrap .entry)) (now (ram .entry)) (now (paper .entry)) (now (journal .entry)) budget stop)
+        (now (image .entry)) (now (ram .entry)) (now (paper .entry)) (now (journal .entry))
+        ⌝ }
+{
+    if image.len() != 501 {
+        return Answer::Refused(Refusal::Image);
+    }
+    let verdict = judged(image, paper.len(), journal.len());
+    if !verdict.keeps {
+        return Answer::Refused(Refusal::Image);
+    }
+    if 1_000_000 < budget {
+        return Answer::Refused(Refusal::Range);
+    }
+    let machine = verdict.machine;
+    done(
+        machine,
+        image,
+        execution,
+        bootstrap,
+        ram,
+        paper,
+        journal,
+        budget as u32,
+        stop,
+    )
+}
+
+pub fn run(
+    image: &mut [u8],
+    execution: &[u8],
+    bootstrap: &[u8],
+    ram: &mut [u8],
+    paper: &mut [u8],
+    journal: &mut [u8],
+    budget: u64,
+    stop: u64,
+) -> Answer
+    ensures { λ r. ⌜
+        leftOf r (now (image .exit)) (now (ram .exit)) (now (paper .exit)) (now (journal .exit))
+        ≡ runLeaves (now (image .entry)) (now (execution .entry)) (now (bootstrap .entry)) (now (ram .entry)) (now (paper .entry)) (now (journal .entry)) budget stop
+        ⌝ }
+{
+    let test = lent_test(
+        execution.len(),
+        bootstrap.len(),
+        ram.len(),
+        paper.len(),
+        journal.len(),
+    );
+    match test {
+        Test::Failed(refusal) => Answer::Refused(refusal),
+        Test::Passed => with_image(
+            image,
+            execution,
+            bootstrap,
+            ram,
+            paper,
+            journal,
+            budget,
+            stop,
+        ),
+    }
+}
