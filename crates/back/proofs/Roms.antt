@@ -6,7 +6,7 @@ use mathlib.Core.List.{List}
 use lib.Dec.{ltb}
 use Rattle.ring.specs.Slots.{Ring, lowered}
 use Rattle.ring.specs.Run.{Config}
-use Rattle.ring.specs.Back.{Took, recordAt, undone, allFit, takeBack, done, tooFar, badRecord}
+use Rattle.ring.specs.Back.{How, Took, recordAt, undone, allFit, takeBack, done, tooFar, badRecord}
 use Rattle.record.specs.Layout.{recordOf}
 use Rattle.step.specs.World.{World, Roms}
 use Rattle.undo.specs.Undo.{viewOf, undoOf}
@@ -32,7 +32,7 @@ module _ (roms : Roms) (n : ℕ) (bytes : List ℕ) (next : ℕ) where
 pub record Plain : Type 0 where
   pub state : World
   pub ring : Ring
-  pub answer : ℕ
+  pub answer : How
 
 abbrev pub plainOf : (roms : Roms) → Took (both roms) → Plain
 plainOf roms t = record { state = t .config .state; ring = t .config .ring; answer = t .answer }

@@ -4,7 +4,7 @@ use mathlib.Core.List.{List, []}
 use mathlib.Core.Path.{_≡_}
 use lib.ListN.{length}
 use Rattle.ring.specs.Machine.{Machine}
-use Rattle.ring.specs.Back.{Took, takeBack, done, tooFar, badRecord}
+use Rattle.ring.specs.Back.{How, Took, takeBack, done, tooFar, badRecord}
 use Rattle.record.specs.Layout.{recordOf}
 use Rattle.journal.specs.Journal.{slotsOf, Ready}
 use Rattle.state.specs.declared.machine.Machine as state
@@ -39,10 +39,10 @@ viewIn m ram paper = record { cpu = m .cpu; board = m .board; ram = ram; paper =
 abbrev pub backOf : ℕ → state.Machine → List ℕ → List ℕ → List ℕ → Took (both noRoms)
 backOf k m ram paper journal = takeBack (both noRoms) (slotsOf journal) k (configOf noRoms m ram paper journal)
 
-abbrev pub numberOf : Answer → ℕ
-numberOf Done = done
-numberOf TooFar = tooFar
-numberOf Bad = badRecord
+abbrev pub howOf : Answer → How
+howOf Done = done
+howOf TooFar = tooFar
+howOf Bad = badRecord
 
 -- what rows 1 to 5 leave of what is lent
 pub record Fits (paper journal : List ℕ) (m : state.Machine) : Type 0 where
@@ -52,5 +52,5 @@ pub record Fits (paper journal : List ℕ) (m : state.Machine) : Type 0 where
 -- What taking back gives and leaves behind the references is ring's take-back. So where the answer is not Done, the machine, RAM and paper are as they were.
 abbrev pub TakeIs : ℕ → state.Machine → (ram paper journal : List ℕ) → Taken → (ram′ paper′ : List ℕ) → Type 0
 TakeIs k m ram paper journal r ram′ paper′ =
-    _≡_ {A = Took (both noRoms)} (record { config = configOf noRoms (r .machine) ram′ paper′ journal; answer = numberOf (r .answer) })
+    _≡_ {A = Took (both noRoms)} (record { config = configOf noRoms (r .machine) ram′ paper′ journal; answer = howOf (r .answer) })
     (backOf k m ram paper journal)

@@ -8,7 +8,7 @@ use borrow.Author.Tests.{eq-eqb, ne-eqb, leb-true, ltb-false}
 use lib.Dec.{eqb, leb, ltb}
 use lib.ListN.{length}
 use Rattle.word.proofs.Cond.{both}
-use Rattle.ring.specs.Back.{Took, done, tooFar, badRecord, takeBack, allFit, undone}
+use Rattle.ring.specs.Back.{How, Took, done, tooFar, badRecord, takeBack, allFit, undone}
 use Rattle.ring.specs.Run.{Config}
 use Rattle.ring.specs.Slots.{lowered}
 use Rattle.journal.specs.Journal.{slotsOf}
@@ -17,7 +17,7 @@ use Rattle.state.specs.declared.machine.Machine.{Machine}
 use Rattle.rules.specs.Rules.{headerKeeps, journalKeeps, stateKeeps, machineKeeps, keepsRules}
 use Rattle.step.specs.World.{World}
 use Rattle.run.specs.Run.{configOf}
-use Rattle.back.specs.Back.{noRoms, backOf, numberOf, Fits, TakeIs}
+use Rattle.back.specs.Back.{noRoms, backOf, howOf, Fits, TakeIs}
 use Rattle.back.specs.Back as taking
 use Rattle.back.specs.declared.Answer as back
 use Rattle.back.specs.declared.Answer.the-variants as how
@@ -76,6 +76,11 @@ module _ (image : List ℕ) (paper journal : ℕ) where
 
 -- ---- taking back
 
+abbrev isDone : How → Bool
+isDone done = true
+isDone tooFar = false
+isDone badRecord = false
+
 -- done is only what was on hand, and what is not done leaves everything
 module _ (k : ℕ) (m : Machine) (ram paper journal : List ℕ) where
   abbrev here : Config (taking.both noRoms .forward)
@@ -94,7 +99,7 @@ module _ (k : ℕ) (m : Machine) (ram paper journal : List ℕ) where
       (undone (taking.both noRoms) (slotsOf journal) journal (m .journal .«next_slot») k (here .state)) refl e
     where
       go : (far fit : Bool) (w : World) → ltb (m .journal .«on_hand») k ≡ far → tookBy far fit w .answer ≡ done → k ≤ m .journal .«on_hand»
-      go true fit w t e = absurd (omega arith)
+      go true fit w t e = absurd (true≢false (sym (ap isDone e)))
       go false fit w t e = ltb-false (m .journal .«on_hand») k t
 
   not-done : (backOf k m ram paper journal .answer ≡ done → ⊥) → backOf k m ram paper journal .config ≡ here
@@ -109,14 +114,14 @@ module _ (k : ℕ) (m : Machine) (ram paper journal : List ℕ) where
       go false false w h = refl
 
   -- a count that was taken back is small: there are at most 65,536 slots
-  pub few-steps : (o : Taken) {ram′ paper′ : List ℕ} → Fits paper journal m → TakeIs k m ram paper journal o ram′ paper′ → numberOf (o .answer) ≡ done → k < 2 ^ 32
+  pub few-steps : (o : Taken) {ram′ paper′ : List ℕ} → Fits paper journal m → TakeIs k m ram paper journal o ram′ paper′ → howOf (o .answer) ≡ done → k < 2 ^ 32
   few-steps o fits took e =
       let n = near (ap (λ (t : Took (taking.both noRoms)). t .answer) (sym took) ∙ e) in
       let r = fits .ready in
       omega (arith, n, r .few, r .sound .most)
 
 -- RAM and paper of what is not done are as they were
-same-buffers : (k : ℕ) (m : Machine) (ram paper journal ram′ paper′ : List ℕ) (a : back.Answer) (after : Machine) → (numberOf a ≡ done → ⊥) →
+same-buffers : (k : ℕ) (m : Machine) (ram paper journal ram′ paper′ : List ℕ) (a : back.Answer) (after : Machine) → (howOf a ≡ done → ⊥) →
     TakeIs k m ram paper journal (record { answer = a; machine = after }) ram′ paper′ → (ram′ ≡ ram) × (paper′ ≡ paper)
 same-buffers k m ram paper journal ram′ paper′ a after h took =
     let same =
@@ -130,10 +135,10 @@ module _ (image ram paper journal : List ℕ) (k : ℕ) (r : Answer) (image′ r
   by-answer m how.Done after took told =
       rw (told .answer-is, told .image-is) (ap (tookLeaves k image ram paper) took)
   by-answer m how.TooFar after took told =
-      let same = same-buffers k m ram paper journal ram′ paper′ how.TooFar after (λ e. absurd (omega arith)) took in
+      let same = same-buffers k m ram paper journal ram′ paper′ how.TooFar after (λ e. absurd (true≢false (sym (ap isDone e)))) took in
       rw (told .answer-is, told .image-is, same .0, same .1) (ap (tookLeaves k image ram paper) took)
   by-answer m how.Bad after took told =
-      let same = same-buffers k m ram paper journal ram′ paper′ how.Bad after (λ e. absurd (omega arith)) took in
+      let same = same-buffers k m ram paper journal ram′ paper′ how.Bad after (λ e. absurd (true≢false (sym (ap isDone e)))) took in
       rw (told .answer-is, told .image-is, same .0, same .1) (ap (tookLeaves k image ram paper) took)
 
   pub tried-is : {m : Machine} (o : Taken) → m ≡ machineOf image → TakeIs k m ram paper journal o ram′ paper′ →

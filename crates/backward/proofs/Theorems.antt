@@ -6,10 +6,10 @@ use mathlib.Core.Bool.{Bool, true, false, cond}
 use mathlib.Core.List.{List}
 use native.Mathlib.Omega.{arith}
 use borrow.Author.Tests.{le-leb, lt-leb, leb-true}
-use lib.Dec.{eqb, leb}
+use lib.Dec.{leb}
 use lib.ListN.{length}
 use Rattle.ring.specs.Slots.{Ring, lowered}
-use Rattle.ring.specs.Back.{Took, undone, allFit, done, tooFar}
+use Rattle.ring.specs.Back.{How, Took, undone, allFit, done, tooFar, badRecord}
 use Rattle.ring.proofs.Slots.{by-leb}
 use Rattle.ring.proofs.Back.{back-far, back-bad, back-done}
 use Rattle.journal.specs.Journal.{slotsOf, ringOf}
@@ -18,15 +18,13 @@ use Rattle.rules.specs.Rules.{goodImage}
 use Rattle.step.specs.World.{World, worldIn}
 use Rattle.run.specs.Run.{configOf}
 use Rattle.back.specs.Back.{both, noRoms, backOf}
-use Rattle.answer.specs.declared.Refusal.the-variants.{Ram, Paper, Journal, Image, TooFar, BadRecord}
+use Rattle.answer.specs.declared.Refusal.the-variants.{Ram, Paper, Journal, Image}
 use Rattle.answer.specs.declared.Answer.{Answer}
-use Rattle.answer.specs.declared.Answer.the-variants.{Refused}
 use Rattle.answer.specs.declared.lent.Test.{Test}
 use Rattle.answer.specs.declared.lent.Test.the-variants.{Passed, Failed}
 use Rattle.answer.specs.Answer.{numberOf, reasonOf, stepsOf}
-use Rattle.answer.specs.Lent.{ramFits, paperFits, journalFits}
-use Rattle.answer.specs.Lent.{andThen}
-use Rattle.backward.specs.Back.{buffersTest, ruleTest, backTest, LeftBack, leftBackOf, doneBack, tookLeaves, triedBack, leftBackBy, backLeaves}
+use Rattle.answer.specs.Lent.{ramFits, paperFits, journalFits, andThen}
+use Rattle.backward.specs.Back.{buffersTest, ruleTest, backTest, LeftBack, leftBackOf, doneBack, leftHow, tookLeaves, triedBack, leftBackBy, backLeaves}
 
 -- ---- six tests in a row
 
@@ -106,13 +104,14 @@ pub record UnchangedBack (left : LeftBack) (image ram paper : List ℕ) : Type 0
 
 unchanged-took : (k : ℕ) (image ram paper : List ℕ) (t : Took (both noRoms)) →
     let left = tookLeaves k image ram paper t in (numberOf (left .answer) ≡ 0 → ⊥) → UnchangedBack left image ram paper
-unchanged-took k image ram paper t h = by (eqb (t .answer) done) (eqb (t .answer) tooFar) h
+unchanged-took k image ram paper t h = by (t .answer) h
   where
-    by : (x y : Bool) →
-        let left = cond x (doneBack k (t .config .state) (t .config .ring)) (leftBackOf (Refused (cond y TooFar BadRecord)) image ram paper) in
+    by : (how : How) →
+        let left = leftHow how (doneBack k (t .config .state) (t .config .ring)) image ram paper in
         (numberOf (left .answer) ≡ 0 → ⊥) → UnchangedBack left image ram paper
-    by true y h = absurd (h refl)
-    by false y h = record { image-same = refl; ram-same = refl; paper-same = refl; no-steps = refl; no-reason = refl }
+    by done h = absurd (h refl)
+    by tooFar h = record { image-same = refl; ram-same = refl; paper-same = refl; no-steps = refl; no-reason = refl }
+    by badRecord h = record { image-same = refl; ram-same = refl; paper-same = refl; no-steps = refl; no-reason = refl }
 
 unchanged : (t : Test) (tried : LeftBack) (image ram paper : List ℕ) → ((numberOf (tried .answer) ≡ 0 → ⊥) → UnchangedBack tried image ram paper) →
     let left = leftBackBy t tried image ram paper in (numberOf (left .answer) ≡ 0 → ⊥) → UnchangedBack left image ram paper

@@ -3,10 +3,9 @@ use Prim.Native.Nat.{ℕ}
 use mathlib.Core.Bool.{cond}
 use mathlib.Core.List.{List}
 use mathlib.Core.Path.{_≡_}
-use lib.Dec.{eqb}
 use lib.ListN.{length}
 use Rattle.ring.specs.Slots.{Ring}
-use Rattle.ring.specs.Back.{Took, done, tooFar}
+use Rattle.ring.specs.Back.{How, Took, done, tooFar, badRecord}
 use Rattle.state.specs.Layout.{bytesOf, machineOf}
 use Rattle.state.specs.declared.machine.Machine.{Machine}
 use Rattle.rules.specs.Rules.{goodImage}
@@ -54,10 +53,13 @@ abbrev pub doneBack : ℕ → World → Ring → LeftBack
 doneBack k w g = leftBackOf (Done k NoReason) (bytesOf (machineAfter w g)) (w .ram) (w .paper)
 
 -- rows 7 and 8, which leave every byte
+abbrev pub leftHow : How → LeftBack → (image ram paper : List ℕ) → LeftBack
+leftHow done back image ram paper = back
+leftHow tooFar back image ram paper = leftBackOf (Refused TooFar) image ram paper
+leftHow badRecord back image ram paper = leftBackOf (Refused BadRecord) image ram paper
+
 abbrev pub tookLeaves : ℕ → (image ram paper : List ℕ) → Took (both noRoms) → LeftBack
-tookLeaves k image ram paper t =
-    cond (eqb (t .answer) done) (doneBack k (t .config .state) (t .config .ring))
-    (leftBackOf (Refused (cond (eqb (t .answer) tooFar) TooFar BadRecord)) image ram paper)
+tookLeaves k image ram paper t = leftHow (t .answer) (doneBack k (t .config .state) (t .config .ring)) image ram paper
 
 unfoldable pub triedBack : (image ram paper journal : List ℕ) → ℕ → LeftBack
 triedBack image ram paper journal k = tookLeaves k image ram paper (backOf k (machineOf image) ram paper journal)

@@ -36,7 +36,7 @@ fn buffers_test(ram: usize, paper: usize, journal: usize) -> Test
 // What is answered; the image is written only where steps were taken back.
 fn told(answer: back::Answer, after: Machine, image: &mut [u8], steps: u64) -> Answer
     requires { ⌜ length (now image) ≡ 501 ⌝ }
-    requires { ⌜ (Rattle.back.specs.Back.numberOf answer ≡ done → steps < 2 ^ 32) ⌝ }
+    requires { ⌜ (Rattle.back.specs.Back.howOf answer ≡ done → steps < 2 ^ 32) ⌝ }
     ensures { λ r. ⌜ ToldIs answer after (now (image .entry)) steps r (now (image .exit)) ⌝ }
 {
     match answer {

@@ -4,6 +4,7 @@ use mathlib.Core.Path.{_≡_, refl, sym, ap, subst, _∙_}
 use mathlib.Core.Bool.{true, not}
 use mathlib.Core.List.{List}
 use native.Mathlib.Omega.{arith}
+use borrow.Author.Tests.{le-leb}
 use lib.Dec.{eqb, leb}
 use lib.ListN.{length}
 use Rattle.word.specs.Lists.{Below}
@@ -11,28 +12,27 @@ use Rattle.ring.specs.Slots.{Sound}
 use Rattle.ring.specs.Run.{Config, advance}
 use Rattle.ring.proofs.Slots.{sound-written, length-written}
 use Rattle.record.specs.Layout.{recordBytes}
-use Rattle.record.proofs.Stored.{length-bytes}
 use Rattle.journal.specs.Journal.{slotsOf}
-use Rattle.state.specs.Layout.{machineOf}
+use Rattle.state.specs.Layout.{bytesOf, machineOf}
 use Rattle.rules.specs.Rules.{goodImage}
+use Rattle.rules.proofs.Good.{good-same}
 use Rattle.decide.specs.Lent.{Whole}
 use Rattle.step.specs.World.{World, Roms, romsOf, lentIn}
 use Rattle.step.specs.Note.{noteOf}
 use Rattle.good.specs.Good.{Good}
 use Rattle.good.proofs.Lengths.{step-lengths, step-whole}
 use Rattle.good.proofs.Keeps.{step-keeps}
+use Rattle.restored.proofs.Notes.{note-long}
 use Rattle.run.specs.Run.{forward, configOf}
-use Rattle.answer.specs.Lent.{ramFits, paperFits, journalFits}
-use Rattle.forward.specs.Run.{Left, ranOf, doneRun, runLeaves}
-use Rattle.forward.proofs.RunLaws.{run-keeps}
+use Rattle.answer.specs.declared.Reason.the-variants.{BudgetSpent}
+use Rattle.answer.specs.declared.Answer.the-variants.{Done}
+use Rattle.answer.specs.Lent.{ramFits, romsFit, paperFits, journalFits}
+use Rattle.forward.specs.Run.{Left, leftOf, ranOf, doneRun, runLeaves}
+use Rattle.ring.proofs.Run as ring
+use Rattle.ring.proofs.Steps.{run-keeps}
 use Rattle.accepted.proofs.Start.{lent-whole, paper-short, few-slots, ring-sound, image-mark, start-good}
 use Rattle.accepted.proofs.End.{end-bytes, end-good}
 use Rattle.forward.proofs.Theorems.{runNumber, number-0, done-is}
-
--- a record is as long as a slot
-note-long : (roms : Roms) (w : World) → length (w .board .line .printers) ≡ 8 → length (recordBytes (noteOf roms w)) ≡ 256
-unfolding noteOf
-note-long roms w eight = length-bytes (noteOf roms w) eight
 
 -- ---- what a run keeps from step to step: `slots` of the journal, and the lengths of RAM, paper and journal
 
@@ -52,7 +52,7 @@ module _ (roms : Roms) (slots ram paper journal : ℕ) where
       let some : 0 < length (w .cpu .tlb) = omega (arith, h .good .typed .sized .tlb) in
       let same = step-lengths roms w (h .whole) some in
       let short : length (w .paper) < 2 ^ 32 = omega (arith, few, h .paper-long) in
-      let long = note-long roms w (h .good .typed .sized .printers) in
+      let long = note-long roms w (h .good) in
       record {
         good = step-keeps roms execution bootstrap w short (h .whole) (h .good);
         whole = step-whole roms w (h .whole) some;
@@ -137,3 +137,25 @@ module _ (image execution bootstrap ram paper journal : List ℕ) (budget stop :
         let j : journalFits (length (left .journal)) ≡ true = ap (λ (n : ℕ). journalFits n) (run-kept .journal-long) ∙ t .1 .1 .1 .0 in
         number-0 (left .image) execution bootstrap (left .ram) (left .paper) (left .journal) more stop′ .1
         (r, (t .1 .0, (p, (j, (run-kept .image-good, e)))))
+
+-- ---- "Budget 0 [..] [is] done and change[s] nothing", and "for budget 0 [the reason] is the budget"
+
+module _ (image execution bootstrap ram paper journal : List ℕ) (stop : ℕ) (ram-fits : ramFits (length ram) ≡ true)
+    (roms-fit : romsFit (length execution) (length bootstrap) ≡ true) (paper-fits : paperFits (length paper) ≡ true)
+    (journal-fits : journalFits (length journal) ≡ true) (good : goodImage image (length paper) (length journal) ≡ true) where
+  none-done : runNumber image execution bootstrap ram paper journal 0 stop ≡ 0
+  none-done =
+      number-0 image execution bootstrap ram paper journal 0 stop .1
+      (ram-fits, (roms-fit, (paper-fits, (journal-fits, (good, le-leb 0 1000000 (omega arith))))))
+
+  -- a run that takes no step ends where it began
+  none-ran : doneRun image execution bootstrap ram paper journal 0 stop ≡ leftOf (Done 0 BudgetSpent) (bytesOf (machineOf image)) ram paper journal
+  unfolding doneRun
+  none-ran =
+      let roms = romsOf execution bootstrap in
+      rw (ring.run-none (forward roms) (slotsOf journal) (not (eqb stop 0)) (configOf roms (machineOf image) ram paper journal))
+
+  pub run-none : Below 256 image → runLeaves image execution bootstrap ram paper journal 0 stop ≡ leftOf (Done 0 BudgetSpent) image ram paper journal
+  run-none small =
+      done-is image execution bootstrap ram paper journal 0 stop none-done ∙ none-ran
+      ∙ ap (λ (b : List ℕ). leftOf (Done 0 BudgetSpent) b ram paper journal) (good-same image (length paper) (length journal) small good)

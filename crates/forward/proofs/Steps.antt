@@ -1,6 +1,6 @@
 -- What a done run says of itself is so: it stands where that many steps lead, and its reason is why it took no more.
 use Prim.Native.Nat.{ℕ, suc, _-_, _^_, _≤_, _<_}
-use mathlib.Core.Path.{_≡_, refl, sym, ap, subst, _∙_}
+use mathlib.Core.Path.{_≡_, refl, sym, ap, subst}
 use mathlib.Core.Bool.{Bool, true, false, not, false≢true}
 use mathlib.Core.List.{List}
 use mathlib.Core.Logic.{_⊎_, inl, inr}
@@ -10,7 +10,7 @@ use borrow.Author.Tests.{leb-true, eqb-false, ne-eqb}
 use lib.Dec.{eqb}
 use Rattle.word.proofs.Cond.{and-true}
 use Rattle.ring.specs.Machine.{iterate}
-use Rattle.ring.specs.Run.{Ran, spent, excepted}
+use Rattle.ring.specs.Run.{Why, Ran, spent, excepted, halted}
 use Rattle.journal.specs.Journal.{slotsOf}
 use Rattle.state.specs.Layout.{bytesOf, machineOf}
 use Rattle.state.specs.declared.machine.Journal.{Journal}
@@ -22,7 +22,7 @@ use Rattle.answer.specs.declared.Answer.the-variants.{Done}
 use Rattle.answer.specs.Answer.{reasonNumber, reasonOf, stepsOf, packedOf}
 use Rattle.forward.specs.Run.{Left, leftOf, reasonNamed, ranOf, doneRun, runLeaves}
 use Rattle.accepted.specs.After.{machineAfter}
-use Rattle.forward.proofs.RunLaws.{Steps, run-steps}
+use Rattle.ring.proofs.Steps.{Steps, run-steps}
 use Rattle.forward.proofs.Theorems.{runNumber, number-0, no-other, refused-same, done-is}
 
 -- the world of an image with what is lent, k steps later: no journal, no budget and no stop
@@ -48,10 +48,23 @@ pub record RunSays (image execution bootstrap ram paper : List ℕ) (budget stop
   pub first : (stop ≡ 0 → ⊥) → (i : ℕ) → i < stepsOf (left .answer) → raisesLater image execution bootstrap ram paper i ≡ true →
       (suc i ≡ stepsOf (left .answer)) × (reasonOf (left .answer) ≡ 2)
 
--- the two reasons of a run have the numbers that document 01 gives them
-named : (n : ℕ) → (n ≡ spent) ⊎ (n ≡ excepted) → reasonNumber (reasonNamed n) ≡ n
-named n (inl e) = rw e
-named n (inr e) = rw e
+-- the two reasons of a run have the numbers that document 01 gives them, and no other
+abbrev numbered : Why → ℕ
+numbered why = reasonNumber (reasonNamed why)
+
+named : (why : Why) → (why ≡ spent) ⊎ (why ≡ excepted) → (numbered why ≡ 1) ⊎ (numbered why ≡ 2)
+named why (inl e) = inl (ap numbered e)
+named why (inr e) = inr (ap numbered e)
+
+is-spent : (why : Why) → numbered why ≡ 1 → why ≡ spent
+is-spent spent e = refl
+is-spent excepted e = absurd (omega arith)
+is-spent halted e = absurd (omega arith)
+
+is-excepted : (why : Why) → numbered why ≡ 2 → why ≡ excepted
+is-excepted spent e = absurd (omega arith)
+is-excepted excepted e = refl
+is-excepted halted e = absurd (omega arith)
 
 asked : (t : Bool) → not t ≡ true → t ≡ false
 asked true e = absurd (false≢true e)
@@ -67,20 +80,19 @@ module _ (image execution bootstrap ram paper journal : List ℕ) (budget stop :
   says-of r most s =
       let g = r .config .ring in
       let mark : Journal = record { «on_hand» = g .hand; «next_slot» = g .next } in
-      let is = named (r .reason) (s .why) in
       record {
         few = s .few;
         small = omega (arith, s .few, most);
         image-is = (mark, ap (λ (w : World). bytesOf (machineIn w mark)) (s .state));
         ram-is = ap (λ (w : World). w .ram) (s .state);
         paper-is = ap (λ (w : World). w .paper) (s .state);
-        why = rw is (s .why);
-        all = λ e. s .all (sym is ∙ e);
-        last = λ e. let l = s .last (sym is ∙ e) in (eqb-false stop 0 (asked (eqb stop 0) (l .0)), l .1);
+        why = named (r .reason) (s .why);
+        all = λ e. s .all (is-spent (r .reason) e);
+        last = λ e. let l = s .last (is-excepted (r .reason) e) in (eqb-false stop 0 (asked (eqb stop 0) (l .0)), l .1);
         first = λ on i l e.
             let wanted : not (eqb stop 0) ≡ true = ap not (ne-eqb stop 0 on) in
             let h = s .first i l (and-true wanted e) in
-            (h .0, is ∙ h .1);
+            (h .0, ap numbered (h .1));
       }
 
   done-says : budget ≤ 1000000 → RunSays image execution bootstrap ram paper budget stop (doneRun image execution bootstrap ram paper journal budget stop)

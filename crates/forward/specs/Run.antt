@@ -4,7 +4,7 @@ use mathlib.Core.Bool.{cond, not}
 use mathlib.Core.List.{List}
 use lib.Dec.{eqb, leb}
 use lib.ListN.{length}
-use Rattle.ring.specs.Run.{Ran, excepted}
+use Rattle.ring.specs.Run.{Why, Ran, spent, excepted, halted}
 use Rattle.state.specs.Layout.{bytesOf, machineOf}
 use Rattle.rules.specs.Rules.{goodImage}
 use Rattle.step.specs.World.{romsOf}
@@ -12,7 +12,7 @@ use Rattle.run.specs.Run.{forward, runOf}
 use Rattle.answer.specs.Lent.{andThen, lentTest}
 use Rattle.accepted.specs.After.{machineAfter}
 use Rattle.answer.specs.declared.Reason.{Reason}
-use Rattle.answer.specs.declared.Reason.the-variants.{BudgetSpent, Exception}
+use Rattle.answer.specs.declared.Reason.the-variants.{NoReason, BudgetSpent, Exception}
 use Rattle.answer.specs.declared.Refusal.the-variants.{Image, Range}
 use Rattle.answer.specs.declared.Answer.{Answer}
 use Rattle.answer.specs.declared.Answer.the-variants.{Done, Refused}
@@ -43,8 +43,11 @@ pub record Left : Type 0 where
 abbrev pub leftOf : Answer → List ℕ → List ℕ → List ℕ → List ℕ → Left
 leftOf answer image ram paper journal = record { answer = answer; image = image; ram = ram; paper = paper; journal = journal }
 
-abbrev pub reasonNamed : ℕ → Reason
-reasonNamed n = cond (eqb n excepted) Exception BudgetSpent
+-- nothing halts the machine of document 01 (proofs/Steps.antt), so that no run ends for that reason
+abbrev pub reasonNamed : Why → Reason
+reasonNamed spent = BudgetSpent
+reasonNamed excepted = Exception
+reasonNamed halted = NoReason
 
 abbrev pub ranOf : (image execution bootstrap ram paper journal : List ℕ) → ℕ → ℕ → Ran (forward (romsOf execution bootstrap))
 ranOf image execution bootstrap ram paper journal budget stop =

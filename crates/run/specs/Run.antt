@@ -5,7 +5,7 @@ use mathlib.Core.List.{List}
 use mathlib.Core.Path.{_≡_}
 use lib.ListN.{length}
 use Rattle.ring.specs.Machine.{Forward}
-use Rattle.ring.specs.Run.{Config, Ran, ended, spent, excepted}
+use Rattle.ring.specs.Run.{Why, Config, Ran, ended, spent, excepted}
 use Rattle.ring.specs.Run as ring
 use Rattle.record.specs.Layout.{recordBytes}
 use Rattle.journal.specs.Journal.{slotsOf, ringOf, Ready}
@@ -36,7 +36,7 @@ configOf roms m ram paper journal = record { state = worldIn m ram paper; ring =
 abbrev pub runOf : (roms : Roms) → ℕ → Bool → Machine → List ℕ → List ℕ → List ℕ → Ran (forward roms)
 runOf roms budget stop m ram paper journal = ring.run (forward roms) (slotsOf journal) budget stop (configOf roms m ram paper journal)
 
-abbrev pub reasonOf : Stop → ℕ
+abbrev pub reasonOf : Stop → Why
 reasonOf Budget = spent
 reasonOf Exception = excepted
 

@@ -1,7 +1,7 @@
 -- `backward::told` meets its contract: one return for each way that take-back can end.
 use mathlib.Core.Path.{ap}
 use native.Mathlib.Omega.{arith}
-use Rattle.back.specs.Back.{numberOf}
+use Rattle.back.specs.Back.{howOf}
 use borrow.Author.Needs.{needs}
 use Rattle.backward.proofs.told.Statement.{statement}
 use Rattle.backward.proofs.told.Tie as tie
@@ -13,7 +13,7 @@ encode-requires : tie.Need-encode-requires
 encode-requires c κs = search needs
 
 cast-t9 : tie.Need-cast-t9
-cast-t9 c = let chosen = c .before .before .before .before in omega (arith, chosen .before .before .before .pre .1 (ap numberOf (chosen .enum-told .given .1)))
+cast-t9 c = let chosen = c .before .before .before .before in omega (arith, chosen .before .before .before .pre .1 (ap howOf (chosen .enum-told .given .1)))
 
 enum-told-2 : tie.Need-enum-told-2
 enum-told-2 c = search needs

@@ -2,12 +2,17 @@
 use Prim.Native.Nat.{ℕ, zero, suc, _+_, _-_, _≤_, _<_}
 use native.Mathlib.Omega.{arith}
 use mathlib.Core.Path.{_≡_, refl, sym, ap, subst, _∙_}
-use mathlib.Core.Bool.{Bool, true, false, cond, _&&_, false≢true}
+use mathlib.Core.Bool.{Bool, true, false, cond, _&&_, false≢true, true≢false}
 use mathlib.Core.Logic.{_⊎_, inl, inr}
 use Rattle.word.proofs.Cond.{both}
 use Rattle.ring.specs.Machine.{Forward, iterate}
-use Rattle.ring.specs.Run.{Config, Ran, advance, ended, after, run, spent, excepted, halted}
+use Rattle.ring.specs.Run.{Why, Config, Ran, advance, ended, after, run, spent, excepted, halted}
 use Rattle.ring.proofs.Run.{run-none, run-stops, run-goes}
+
+abbrev isSpent : Why → Bool
+isSpent spent = true
+isSpent excepted = false
+isSpent halted = false
 
 -- what each step with its record keeps, a run keeps
 pub run-keeps : (F : Forward) (n : ℕ) (P : Config F → Type 0) → ((c : Config F) → P c → P (advance F n c)) → (b : ℕ) (stop : Bool) (c : Config F) → P c →
@@ -47,7 +52,7 @@ module _ (F : Forward) (n : ℕ) where
         state = refl;
         why = inl refl;
         all = λ e. refl;
-        last = λ e. absurd (omega arith);
+        last = λ e. absurd (true≢false (ap isSpent e));
         first = λ i l e. absurd (omega arith);
       }
 
@@ -60,7 +65,7 @@ module _ (F : Forward) (n : ℕ) where
           few = omega arith;
           state = refl;
           why = inr refl;
-          all = λ e. absurd (omega arith);
+          all = λ e. absurd (true≢false (sym (ap isSpent e)));
           last = λ e. (h .0, (omega arith, h .1));
           first = λ i l e. (omega arith, refl);
         }
