@@ -68,7 +68,8 @@ pub fn slti(x: u32, imm: u32) -> u32
 pub fn sltiu(x: u32, imm: u32) -> u32
     ensures { λ r. ⌜ r ≡ sltiuOf x imm ⌝ }
 {
-    sltu(x, extend16(imm))
+    let wide = extend16(imm);
+    sltu(x, wide)
 }
 
 // Signed numbers in their order, from -2^31 on.

@@ -34,7 +34,8 @@ pub fn ticked(c: Clock) -> Beat
 pub fn tick(c: &mut Clock) -> bool
     ensures { λ r. ⌜ (r ≡ tickedOf (now (c .entry)) .rang) × (now (c .exit) ≡ tickedOf (now (c .entry)) .clock) ⌝ }
 {
-    let t = ticked(*c);
+    let was = *c;
+    let t = ticked(was);
     *c = t.clock;
     t.rang
 }

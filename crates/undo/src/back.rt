@@ -3,7 +3,6 @@ ghost use mathlib.Core.Path.{_≡_};
 ghost use mathlib.Core.Bool.{true};
 ghost use lib.ListN.{length};
 ghost use Rattle.record.specs.Keeps.{savedRanged};
-ghost use Rattle.printer.specs.Saved.{restoredPaper};
 ghost use Rattle.step.specs.World.{worldIn};
 ghost use Rattle.undo.specs.Undo.{regsBack, rowsBack, ramBack, clockBack, cpuBack, boardBack, machineBack, undoOf};
 ghost use Rattle.undo.specs.Fit.{ramPlaceFits, Undoable};
@@ -60,7 +59,10 @@ fn ram_back(s: Saved, ram: &mut [u8])
         Saved::Nothing => {}
         Saved::Register(_, _) => {}
         Saved::TlbRow(_, _) => {}
-        Saved::RamWord(place, old) => store_word(ram, place as usize, old),
+        Saved::RamWord(place, old) => {
+            let at = place as usize;
+            store_word(ram, at, old)
+        }
     }
 }
 
@@ -121,21 +123,6 @@ pub fn machine_back(r: Record, m: Machine) -> Machine
     }
 }
 
-// RAM and paper before the step.
-pub fn lent_back(r: Record, ram: &mut [u8], paper: &mut [u8])
-    requires { ⌜ ramPlaceFits (r .saved) (length (now ram)) ≡ true ⌝ }
-    ensures { λ _. ⌜
-        (now (ram .exit) ≡ ramBack (r .saved) (now (ram .entry)))
-        × (now (paper .exit) ≡ restoredPaper (r .paper) (r .printers) (now (paper .entry)))
-        ⌝ }
-{
-    let s = r.saved;
-    let kept = r.paper;
-    let printers = r.printers;
-    ram_back(s, ram);
-    restore_paper(kept, printers, paper);
-}
-
 // The machine, RAM and paper as they were before the step that wrote the record.
 pub fn undo(r: Record, m: Machine, ram: &mut [u8], paper: &mut [u8]) -> Machine
     requires { ⌜ Undoable r (length (now ram)) ⌝ }
@@ -144,6 +131,10 @@ pub fn undo(r: Record, m: Machine, ram: &mut [u8], paper: &mut [u8]) -> Machine
         × (worldIn b (now (ram .exit)) (now (paper .exit)) ≡ undoOf r (worldIn m (now (ram .entry)) (now (paper .entry))))
         ⌝ }
 {
-    lent_back(r, ram, paper);
+    let s = r.saved;
+    let kept = r.paper;
+    let before = r.printers;
+    ram_back(s, ram);
+    restore_paper(kept, before, paper);
     machine_back(r, m)
 }

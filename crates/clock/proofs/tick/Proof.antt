@@ -112,17 +112,17 @@ module _ {M : Type 1} (𝓤 : URA M) (H : Heap 𝓤) (A : Atoms 𝓤) (W : Given
         use1 W (‵ (fat fullShare T′.mir b o (mach h))) (W .laws .raw-at fullShare T′.mir b o (mach h)) $
         move ! (1 ∷ []) $ peeks ! R (Is R) (shows 𝓤 H A R) h (mach h ∷ []) (λ was. move ! (1 ∷ 0 ∷ []) $
         -- [the struct's cell; what a Clock owns; the open borrow; obs; auth; true; true; _3; …; _2; …; _1; …; room for _0; …]
-        assigns ! (of-opd ! (load ! (from ! (hop ! (look ! 11 refl) (stop !))) (look ! 0 refl))) (from ! (stop !)) (init ! 7 refl (LL.lawful T.the-type T′.the-laws 𝓤 H A W .typed h _ was .0)) $
+        assigns ! (of-opd ! (load ! (from ! (hop ! (look ! 11 refl) (stop !))) (look ! 0 refl))) (from ! (stop !)) (init ! 9 refl (LL.lawful T.the-type T′.the-laws 𝓤 H A W .typed h _ was .0)) $
         owned ! R (Is R) ((LL.makes T.the-type T′.the-plain) 𝓤 H A) h _ was $ use1 W (raw (TickedC 𝓤 H A at-mem run .pre to-ticked)) goes $
-        calls-at ! fm (TickedC 𝓤 H A at-mem run) known to-ticked (and-then ! (load ! (from ! (stop !)) (look ! 8 refl)) (no-more !)) (λ v.
+        calls-at ! fm (TickedC 𝓤 H A at-mem run) known to-ticked (and-then ! (load ! (from ! (stop !)) (look ! 10 refl)) (no-more !)) (λ v.
         use1 W (later (some (λ (r : Beat). (‵ ftrue ⊛ ‵ (B.the-row .own r (v ∷ []))) ⊛ raw (ensured 𝓤 H A ticked.ended (ticked.clauses 𝓤 H A at-mem run) tt (h, tt) tt r)))) (id⊢ 𝓤 _) $ await ! tt $ pick ! (λ r.
         split ! $ move ! (1 ∷ []) $ use1 W (raw (fact 𝓤 (r ≡ tickedOf h))) (made-of 𝓤 H A at-mem run h r) $ heard ! (r ≡ tickedOf h) (λ e. split ! $ drop ! $
         peeks ! B.the-row (Is B.the-row) (shows 𝓤 H A B.the-row) r (v ∷ []) (λ is.
         -- [what a Beat owns; the struct's cell; what a Clock owns; the open borrow; obs; auth; true; true; _3; …; _2; …; _1; …; room for _0; …]
-        land ! (from ! (stop !)) (init ! 10 refl (LL.lawful B.the-type B′.the-laws 𝓤 H A W .typed r _ is .0)) $
-        rewrite ! 10 (λ (u : Val). ‵ (fat fullShare B′.mir l₂ 0 u)) (ap only (LL.tells B.the-type B′.the-laws r (v ∷ []) is)) refl $
-        assigns ! (of-opd ! (load ! (from ! (fld ! refl (stop !))) (look-in ! 10 (sub ! 0 refl (whole !))))) (from ! (hop ! (look ! 12 refl) (stop !))) (store-in ! 1 (whole !) (LL.lawful T.the-type T′.the-laws 𝓤 H A W .typed (r .clock) _ (clock-is r is) .0)) $
-        assigns ! (of-opd ! (load ! (from ! (fld ! refl (stop !))) (look-in ! 10 (sub ! 1 refl (whole !))))) (from ! (stop !)) (init ! 14 refl (tt, tt)) $
+        land ! (from ! (stop !)) (init ! 8 refl (LL.lawful B.the-type B′.the-laws 𝓤 H A W .typed r _ is .0)) $
+        rewrite ! 8 (λ (u : Val). ‵ (fat fullShare B′.mir l₃ 0 u)) (ap only (LL.tells B.the-type B′.the-laws r (v ∷ []) is)) refl $
+        assigns ! (of-opd ! (load ! (from ! (fld ! refl (stop !))) (look-in ! 8 (sub ! 0 refl (whole !))))) (from ! (hop ! (look ! 12 refl) (stop !))) (store-in ! 1 (whole !) (LL.lawful T.the-type T′.the-laws 𝓤 H A W .typed (r .clock) _ (clock-is r is) .0)) $
+        assigns ! (of-opd ! (load ! (from ! (fld ! refl (stop !))) (look-in ! 8 (sub ! 1 refl (whole !))))) (from ! (stop !)) (init ! 14 refl (tt, tt)) $
         -- the borrow is closed at the new record
         drop ! $ move ! (1 ∷ []) $ drop ! $ owned ! R (Is R) ((LL.makes T.the-type T′.the-plain) 𝓤 H A) (r .clock) _ (clock-is r is) $ move ! (1 ∷ []) $
         use1 W (‵ (cellAt fullShare (R .mir) (mach (r .clock) ∷ []) b o)) (W .laws .at-raw fullShare T′.mir b o (mach (r .clock))) $ closes ! tt R (r .clock) (mach (r .clock) ∷ []) b o $

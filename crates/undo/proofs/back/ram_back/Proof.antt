@@ -1,4 +1,7 @@
 -- `undo::back::ram_back` meets its contract, variant by variant.
+use Prim.Native.Nat.{_+_, _≤_}
+use native.Mathlib.Omega.{arith}
+use lib.ListN.{length}
 use borrow.Author.Tests.{leb-true}
 use mathlib.Core.Path.{_∙_}
 use Rattle.memory.proofs.Cells.{stored-sets}
@@ -18,11 +21,15 @@ enum-told-3 c = search needs
 enum-known-s : tie.Need-enum-known-s
 enum-known-s c = search needs
 
-cast-store-word : tie.Need-cast-store-word
-cast-store-word c = search needs
+cast-at : tie.Need-cast-at
+cast-at c = search needs
 
 store-word-requires : tie.Need-store-word-requires
-store-word-requires c κs = leb-true _ _ (rw (c .before .before .s .given .1) at (c .before .before .before .before .before .pre))
+store-word-requires c κs =
+    let saved = c .before .before .s .given in
+    let start = c .before .before .before .before .before in
+    let room : saved .0 .0 + 4 ≤ length (start .args .ram .now) = leb-true _ _ (rw (saved .1) at (start .pre)) in
+    omega (arith, room)
 
 returns : tie.Need-returns
 returns c = search needs
@@ -48,7 +55,7 @@ ram-back-spec =
     enum-told-2
     enum-told-3
     enum-known-s
-    cast-store-word
+    cast-at
     store-word-requires
     returns
     returns-2
