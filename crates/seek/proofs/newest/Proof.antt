@@ -1,0 +1,46 @@
+-- `seek::newest` is safe and ends.
+use borrow.Author.Needs.{needs}
+use Prim.Native.Nat.{_-_, _≤_}
+use Rattle.seek.proofs.newest.Statement.{statement}
+use Rattle.seek.proofs.newest.Tie as tie
+
+abbrev Inv-loop : tie.InvT-loop
+Inv-loop journal hand next pc k₀ k = k ≤ hand
+
+abbrev μ-loop : tie.MeasureT-loop
+μ-loop journal hand next pc k₀ k = hand - k
+
+loop-holds : tie.Need-loop-holds Inv-loop μ-loop
+loop-holds c = search needs
+
+add-k : tie.Need-add-k Inv-loop μ-loop
+add-k c = search needs
+
+pc-at-requires : tie.Need-pc-at-requires Inv-loop μ-loop
+pc-at-requires c κs = search needs
+
+returns : tie.Need-returns Inv-loop μ-loop
+returns c = search needs
+
+loop-less : tie.Need-loop-less Inv-loop μ-loop
+loop-less c = search needs
+
+loop-again : tie.Need-loop-again Inv-loop μ-loop
+loop-again c = search needs
+
+returns-2 : tie.Need-returns-2 Inv-loop μ-loop
+returns-2 c = search needs
+
+pub newest-spec : {M : Type 1} → statement M
+newest-spec =
+    tie.close
+    (tie.spec
+    Inv-loop
+    μ-loop
+    loop-holds
+    add-k
+    pc-at-requires
+    returns
+    loop-less
+    loop-again
+    returns-2)
