@@ -1,15 +1,46 @@
 -- Laws of the records on hand.
-use Prim.Native.Nat.{ℕ}
-use mathlib.Core.Path.{_≡_}
+use Prim.Native.Nat.{ℕ, zero, suc, _+_, _-_, _*_, _≤_, _<_}
+use native.Mathlib.Omega.{arith}
+use mathlib.Core.Path.{_≡_, refl, ap, _∙_}
 use mathlib.Core.Bool.{true}
-use mathlib.Core.List.{List}
+use mathlib.Core.List.{List, [], _∷_, map}
 use borrow.Author.Tests.{leb-true, ltb-true}
 use lib.Dec.{leb, ltb}
+use lib.ListN.{length, take, drop, getD, length-map}
 use Rattle.word.proofs.Cond.{both}
+use Rattle.word.proofs.Lists.{length-tabulate, getD-tabulate}
+use Rattle.ring.specs.Slots.{slot, slotBack}
+use Rattle.ring.proofs.Slots.{slot-part, length-slot}
 use Rattle.journal.specs.Journal.{slotsOf}
-use Rattle.seek.specs.OnHand.{fitsIn, Fits}
+use Rattle.seek.specs.OnHand.{fitsIn, Fits, kthOf, heldOf}
 
 pub fits : (journal : List ℕ) (hand next : ℕ) → fitsIn journal hand next ≡ true → Fits journal hand next
 fits journal hand next e =
     let h = both (leb hand (slotsOf journal)) (ltb next (slotsOf journal)) e in
     record { most = leb-true hand (slotsOf journal) (h .0); place = ltb-true next (slotsOf journal) (h .1) }
+
+-- the part that is lent at the slot x
+module _ (journal : List ℕ) (next k x : ℕ) (at : x ≡ slotBack (slotsOf journal) next k) where
+  pub kth-part : take (256 * x + 256 - 256 * x) (drop (256 * x) journal) ≡ kthOf journal next k
+  kth-part = slot-part 256 journal x ∙ ap (slot 256 journal) at
+
+  pub kth-long : x < slotsOf journal → length (take (256 * x + 256 - 256 * x) (drop (256 * x) journal)) ≡ 256
+  kth-long within = ap length (slot-part 256 journal x) ∙ length-slot 256 (slotsOf journal) journal (omega arith) x within
+
+-- an element of a mapped list, whatever stands past its end
+map-at : {A B : Type 0} (f : A → B) (l : List A) (k : ℕ) (d : B) (e : A) → k < length l → getD (map f l) k d ≡ f (getD l k e)
+map-at f [] k d e h = absurd (omega arith)
+map-at f (x ∷ xs) zero d e h = refl
+map-at f (x ∷ xs) (suc k) d e h = map-at f xs k d e (omega arith)
+
+module _ {A : Type 0} (f : List ℕ → A) (journal : List ℕ) (hand next : ℕ) where
+  abbrev kth : ℕ → List ℕ
+  kth i = kthOf journal next (suc i)
+
+  pub held-long : length (map f (heldOf journal hand next)) ≡ hand
+  held-long = length-map (heldOf journal hand next) f ∙ length-tabulate hand kth
+
+  pub held-at : (i : ℕ) (d : A) → i < hand → getD (map f (heldOf journal hand next)) i d ≡ f (kthOf journal next (suc i))
+  held-at i d h =
+      map-at f (heldOf journal hand next) i d [] (omega (arith, length-tabulate hand kth))
+      ∙ ap f (getD-tabulate hand kth i [] h)

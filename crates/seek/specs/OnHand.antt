@@ -20,7 +20,14 @@ pub record Fits (journal : List ℕ) (hand next : ℕ) : Type 0 where
 abbrev pub recordsIn : ℕ → ℕ → Ring → List (List ℕ)
 recordsIn size n g = tabulate (g .hand) (λ (i : ℕ). slot size (g .bytes) (slotBack n (g .next) (suc i)))
 
--- of the journal that is lent, with any two numbers: none where these do not fit it
+-- of the journal that is lent
+abbrev pub heldOf : List ℕ → ℕ → ℕ → List (List ℕ)
+heldOf journal hand next = recordsIn 256 (slotsOf journal) (record { bytes = journal; hand = hand; next = next })
+
+-- with any two numbers: none where these do not fit it
 abbrev pub recordsOf : List ℕ → ℕ → ℕ → List (List ℕ)
-recordsOf journal hand next =
-    cond (fitsIn journal hand next) (recordsIn 256 (slotsOf journal) (record { bytes = journal; hand = hand; next = next })) []
+recordsOf journal hand next = cond (fitsIn journal hand next) (heldOf journal hand next) []
+
+-- the record of the k-th newest step, counted from 1
+abbrev pub kthOf : List ℕ → ℕ → ℕ → List ℕ
+kthOf journal next k = slot 256 journal (slotBack (slotsOf journal) next k)

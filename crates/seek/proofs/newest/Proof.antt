@@ -1,17 +1,18 @@
--- `seek::newest` is safe and ends.
+-- `seek::newest` meets its contract. The invariant is `Passed`: no record passed is at the PC.
 use borrow.Author.Needs.{needs}
-use Prim.Native.Nat.{_-_, _≤_}
+use Prim.Native.Nat.{_-_}
+use Rattle.seek.proofs.Loops.{Passed, passed-start, passed-more, passed-stops, passed-ends}
 use Rattle.seek.proofs.newest.Statement.{statement}
 use Rattle.seek.proofs.newest.Tie as tie
 
 abbrev Inv-loop : tie.InvT-loop
-Inv-loop journal hand next pc k₀ k = k ≤ hand
+Inv-loop journal hand next pc k₀ k = Passed journal hand next pc k
 
 abbrev μ-loop : tie.MeasureT-loop
 μ-loop journal hand next pc k₀ k = hand - k
 
 loop-holds : tie.Need-loop-holds Inv-loop μ-loop
-loop-holds c = search needs
+loop-holds c = passed-start _ _ _ _
 
 add-k : tie.Need-add-k Inv-loop μ-loop
 add-k c = search needs
@@ -20,16 +21,16 @@ pc-at-requires : tie.Need-pc-at-requires Inv-loop μ-loop
 pc-at-requires c κs = search needs
 
 returns : tie.Need-returns Inv-loop μ-loop
-returns c = search needs
+returns c = passed-stops _ _ _ (c .before .before .before .loop .inv) (c .before .before .loop-test .taken) (c .before .pc-at .result) (c .before .pc-at .ensures) (c .if1 .taken)
 
 loop-less : tie.Need-loop-less Inv-loop μ-loop
 loop-less c = search needs
 
 loop-again : tie.Need-loop-again Inv-loop μ-loop
-loop-again c = search needs
+loop-again c = passed-more _ _ _ (c .before .before .before .loop .inv) (c .before .before .loop-test .taken) (c .before .pc-at .result) (c .before .pc-at .ensures) (c .if1 .left)
 
 returns-2 : tie.Need-returns-2 Inv-loop μ-loop
-returns-2 c = search needs
+returns-2 c = passed-ends _ _ _ (c .before .loop .inv) (c .loop-test .left)
 
 pub newest-spec : {M : Type 1} → statement M
 newest-spec =

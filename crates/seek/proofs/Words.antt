@@ -1,0 +1,53 @@
+-- The words of a slot that are looked at are what the record says of RAM.
+use Prim.Native.Nat.{ℕ}
+use mathlib.Core.Path.{_≡_, refl, sym, ap, subst, _∙_}
+use mathlib.Core.Logic.{_≢_}
+use mathlib.Core.Bool.{Bool, true, false, cond}
+use mathlib.Core.List.{List}
+use lib.Dec.{eqb}
+use borrow.Author.Tests.{eq-eqb, ne-eqb}
+use Rattle.tlb.specs.declared.Row.{Row}
+use Rattle.record.specs.declared.Saved.{Saved}
+use Rattle.record.specs.declared.Saved.the-variants.{Nothing, Register, TlbRow, RamWord}
+use Rattle.record.specs.Layout.{savedAt, recordOf, recordAt, slotWord}
+use Rattle.seek.specs.Latest.{wordBefore}
+use Rattle.seek.specs.Seek.{writesIn, writesOf, pcOf}
+
+module _ (place word : ℕ) where
+  no-ram : (kind which first second : ℕ) → kind ≢ 3 → wordBefore place (writesIn (savedAt kind which first second)) word ≡ word
+  unfolding savedAt
+  no-ram kind which first second other = rw (ne-eqb kind 3 other) (go (eqb kind 1) (eqb kind 2))
+    where
+      go : (one two : Bool) →
+          wordBefore place (writesIn (cond one (Register which first) (cond two (TlbRow which (record { high = first; low = second })) Nothing))) word ≡ word
+      go true two = refl
+      go false true = refl
+      go false false = refl
+
+  ram-word : (kind which first second : ℕ) → kind ≡ 3 →
+      wordBefore place (writesIn (savedAt kind which first second)) word ≡ cond (eqb which place) first word
+  unfolding savedAt
+  ram-word kind which first second is = rw is
+
+  module _ (slot : List ℕ) where
+    saved-is : wordBefore place (writesOf slot) word
+        ≡ wordBefore place (writesIn (savedAt (slotWord slot 17) (slotWord slot 18) (slotWord slot 19) (slotWord slot 20))) word
+    unfolding recordOf recordAt
+    saved-is = refl
+
+    pub other-kind : slotWord slot 17 ≢ 3 → wordBefore place (writesOf slot) word ≡ word
+    other-kind other = saved-is ∙ no-ram (slotWord slot 17) (slotWord slot 18) (slotWord slot 19) (slotWord slot 20) other
+
+    module _ (is : slotWord slot 17 ≡ 3) where
+      kind-three : wordBefore place (writesOf slot) word ≡ cond (eqb (slotWord slot 18) place) (slotWord slot 19) word
+      kind-three = saved-is ∙ ram-word (slotWord slot 17) (slotWord slot 18) (slotWord slot 19) (slotWord slot 20) is
+
+      pub other-place : slotWord slot 18 ≢ place → wordBefore place (writesOf slot) word ≡ word
+      other-place other = kind-three ∙ rw (ne-eqb (slotWord slot 18) place other)
+
+      pub same-place : slotWord slot 18 ≡ place → wordBefore place (writesOf slot) word ≡ slotWord slot 19
+      same-place same = kind-three ∙ rw (eq-eqb (slotWord slot 18) place same)
+
+pub pc-is : (slot : List ℕ) → pcOf slot ≡ slotWord slot 2
+unfolding recordOf recordAt
+pc-is slot = refl
