@@ -175,7 +175,8 @@ module _ (b : Boot) (p : Booted b) where
   carried-called (run budget stop) h c = carried-run b p h c budget stop
   carried-called (back k) h c = carried-back b p h c k
 
-  carried-all : (calls : List Call) (h : Host) → Carried b p h → Carried b p (calledAll (romsIn b) calls h)
+  -- what every call keeps, after any calls
+  pub carried-all : (calls : List Call) (h : Host) → Carried b p h → Carried b p (calledAll (romsIn b) calls h)
   unfolding calledAll
   carried-all [] h c = c
   carried-all (call ∷ later) h c = carried-all later (called (romsIn b) call h) (carried-called call h c)

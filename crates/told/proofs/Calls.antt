@@ -1,0 +1,56 @@
+-- THE THEOREM: what is asked after a done reset and any calls of run and take-back, with the image's two words for the journal, is told of the machine's own
+-- steps. The premises are demand 3's.
+use Prim.Native.Nat.{ℕ, _/_}
+use mathlib.Core.Path.{_≡_, sym, ap, subst}
+use mathlib.Core.Bool.{true}
+use mathlib.Core.List.{List}
+use lib.ListN.{length}
+use Rattle.ring.specs.Run.{Config}
+use Rattle.ring.specs.Calls.{net}
+use Rattle.ring.proofs.History.{Holds}
+use Rattle.journal.specs.Journal.{slotsOf}
+use Rattle.state.specs.Layout.{machineOf}
+use Rattle.state.specs.declared.machine.Journal.{Journal}
+use Rattle.run.specs.Run.{forward}
+use Rattle.back.specs.Back.{both}
+use Rattle.lavushmir.specs.Demand3.{Call, Host, Boot, Booted, calledAll, romsIn, resetTo, worldAt}
+use Rattle.lavushmir.proofs.Boot.{boot-allowed}
+use Rattle.lavushmir.proofs.Carried.{configAt, Carried, carried-start}
+use Rattle.lavushmir.proofs.Demand3.{carried-all}
+use Rattle.seek.specs.Pcs.{newest, oldest}
+use Rattle.seek.specs.Seek.{hasWord, lastChangeOf, newestAtOf, oldestAtOf}
+use Rattle.told.specs.Told.{Tells, pcsAgo, agoIn}
+use Rattle.told.proofs.History.{holds-tells, holds-newest, holds-oldest}
+
+module _ (b : Boot) (p : Booted b) (calls : List Call) where
+  abbrev h : Host
+  h = calledAll (romsIn b) calls (resetTo b)
+
+  -- the image's two words
+  abbrev mark : Journal
+  mark = machineOf (h .image) .journal
+
+  abbrev HoldsIn : ℕ → Type 0
+  HoldsIn n = Holds (both (romsIn b)) (worldAt (resetTo b)) (length (b .journal)) n (net (h .events)) (configAt b h)
+
+  held : HoldsIn (slotsOf (h .journal))
+  held =
+      let k = carried-all b p calls (resetTo b) (carried-start b p) .kept .holds in
+      subst HoldsIn (ap (λ (bytes : ℕ). bytes / 256) (sym (k .long))) k
+
+  -- last_change, of a word that RAM has
+  pub change-told : (place : ℕ) → hasWord (h .ram) place ≡ true →
+      Tells (agoIn b h) (mark .«on_hand») place (lastChangeOf (h .ram) (h .journal) (mark .«on_hand») (mark .«next_slot») place)
+  change-told place has =
+      holds-tells (romsIn b) (p .execution-bytes) (p .bootstrap-bytes) (worldAt (resetTo b)) (boot-allowed b p) (length (b .journal)) (net (h .events))
+      (configAt b h) held place has
+
+  pub newest-told : (pc : ℕ) → newestAtOf (h .journal) (mark .«on_hand») (mark .«next_slot») pc ≡ newest pc 0 (pcsAgo (agoIn b h) (mark .«on_hand»))
+  newest-told pc =
+      holds-newest (romsIn b) (p .execution-bytes) (p .bootstrap-bytes) (worldAt (resetTo b)) (boot-allowed b p) (length (b .journal)) (net (h .events))
+      (configAt b h) held pc
+
+  pub oldest-told : (pc : ℕ) → oldestAtOf (h .journal) (mark .«on_hand») (mark .«next_slot») pc ≡ oldest pc (pcsAgo (agoIn b h) (mark .«on_hand»)) (mark .«on_hand»)
+  oldest-told pc =
+      holds-oldest (romsIn b) (p .execution-bytes) (p .bootstrap-bytes) (worldAt (resetTo b)) (boot-allowed b p) (length (b .journal)) (net (h .events))
+      (configAt b h) held pc

@@ -1,0 +1,1 @@
+// No code: what the crate `seek` answers, said of the states before and after the steps (proofs/).
