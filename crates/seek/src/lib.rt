@@ -101,12 +101,12 @@ fn oldest(journal: &[u8], hand: u32, next: u32, pc: u32) -> Place
     requires { ⌜ Fits (now journal) hand next ⌝ }
     ensures { λ r. ⌜ r ≡ Pcs.oldest pc (map pcOf (heldOf (now (journal .entry)) hand next)) hand ⌝ }
 {
-    let mut k = hand;
-    while 0 < k {
-        if pc_at(journal, next, k) == pc {
-            return Place::At(k);
+    let mut left = hand;
+    while 0 < left {
+        if pc_at(journal, next, left) == pc {
+            return Place::At(left);
         }
-        k -= 1;
+        left -= 1;
     }
     Place::Nothing
 }

@@ -5,10 +5,10 @@ use Rattle.seek.proofs.oldest.Statement.{statement}
 use Rattle.seek.proofs.oldest.Tie as tie
 
 abbrev Inv-loop : tie.InvT-loop
-Inv-loop journal hand next pc k₀ k = Remaining journal hand next pc k
+Inv-loop journal hand next pc left₀ left = Remaining journal hand next pc left
 
 abbrev μ-loop : tie.MeasureT-loop
-μ-loop journal hand next pc k₀ k = k
+μ-loop journal hand next pc left₀ left = left
 
 loop-holds : tie.Need-loop-holds Inv-loop μ-loop
 loop-holds c = remaining-start _ _ _ _
@@ -19,8 +19,8 @@ pc-at-requires c κs = search needs
 returns : tie.Need-returns Inv-loop μ-loop
 returns c = remaining-stops _ _ _ (c .before .before .before .loop .inv) (c .before .before .loop-test .taken) (c .before .pc-at .result) (c .before .pc-at .ensures) (c .if1 .taken)
 
-sub-k : tie.Need-sub-k Inv-loop μ-loop
-sub-k c = search needs
+sub-left : tie.Need-sub-left Inv-loop μ-loop
+sub-left c = search needs
 
 loop-less : tie.Need-loop-less Inv-loop μ-loop
 loop-less c = search needs
@@ -40,7 +40,7 @@ oldest-spec =
     loop-holds
     pc-at-requires
     returns
-    sub-k
+    sub-left
     loop-less
     loop-again
     returns-2)
