@@ -12,9 +12,7 @@ use Rattle.seek.specs.OnHand.{fitsIn, heldOf, recordsOf}
 use Rattle.seek.specs.Latest.{scan}
 use Rattle.seek.specs.Pcs.{newest, oldest}
 use Rattle.seek.specs.Seek.{hasWord, writesOf, pcOf, lastChangeOf, newestAtOf, oldestAtOf}
-use Rattle.seek.specs.declared.Sought.{Sought}
 use Rattle.seek.specs.declared.Sought.the-variants as sought
-use Rattle.seek.specs.declared.Place.{Place}
 use Rattle.seek.specs.declared.Place.the-variants.{Nothing}
 use Rattle.seek.proofs.OnHand.{held-long}
 

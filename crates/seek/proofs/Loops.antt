@@ -1,8 +1,8 @@
 -- What the loops keep: the answer is that of the records that are left.
-use Prim.Native.Nat.{ℕ, zero, suc, _+_, _-_, _≤_, _<_}
+use Prim.Native.Nat.{ℕ, suc, _+_, _-_, _≤_, _<_}
 use native.Mathlib.Omega.{arith}
 use native.Mathlib.Numerals.{add-one}
-use mathlib.Core.Path.{_≡_, refl, sym, ap, subst, _∙_}
+use mathlib.Core.Path.{_≡_, refl, sym, ap, _∙_}
 use mathlib.Core.Logic.{_≢_}
 use mathlib.Core.List.{List, [], map}
 use lib.ListN.{length, getD, drop}
@@ -10,9 +10,7 @@ use Rattle.seek.specs.OnHand.{kthOf, heldOf}
 use Rattle.seek.specs.Latest.{Write, wordBefore, scan}
 use Rattle.seek.specs.Pcs.{newest, oldest}
 use Rattle.seek.specs.Seek.{writesOf, pcOf}
-use Rattle.seek.specs.declared.Sought as Sought
 use Rattle.seek.specs.declared.Sought.the-variants as sought
-use Rattle.seek.specs.declared.Place.{Place}
 use Rattle.seek.specs.declared.Place.the-variants.{At, Nothing}
 use Rattle.seek.proofs.OnHand.{held-long, held-at}
 use Rattle.seek.proofs.Latest.{scan-goes, scan-stops, scan-ends}

@@ -1,14 +1,12 @@
 -- The words of a slot that are looked at are what the record says of RAM.
 use Prim.Native.Nat.{ℕ}
-use mathlib.Core.Path.{_≡_, refl, sym, ap, subst, _∙_}
+use mathlib.Core.Path.{_≡_, refl, _∙_}
 use mathlib.Core.Logic.{_≢_}
 use mathlib.Core.Bool.{Bool, true, false, cond}
 use mathlib.Core.List.{List}
 use lib.Dec.{eqb}
 use borrow.Author.Tests.{eq-eqb, ne-eqb}
-use Rattle.tlb.specs.declared.Row.{Row}
-use Rattle.record.specs.declared.Saved.{Saved}
-use Rattle.record.specs.declared.Saved.the-variants.{Nothing, Register, TlbRow, RamWord}
+use Rattle.record.specs.declared.Saved.the-variants.{Nothing, Register, TlbRow}
 use Rattle.record.specs.Layout.{savedAt, recordOf, recordAt, slotWord}
 use Rattle.seek.specs.Latest.{wordBefore}
 use Rattle.seek.specs.Seek.{writesIn, writesOf, pcOf}

@@ -1,29 +1,26 @@
 -- OVER TAKING BACK: whatever the journal's bytes are, if all the records on hand are well formed, the answers tell what taking back finds.
-use Prim.Native.Nat.{ℕ, zero, suc, _+_, _*_, _%_, _^_, _≤_, _<_, max}
+use Prim.Native.Nat.{ℕ, zero, suc, _+_, _*_, _^_, _≤_, _<_}
 use native.Mathlib.Omega.{arith}
 use native.Mathlib.Decide.{ℕ-discrete}
-use mathlib.Core.Path.{_≡_, refl, sym, ap, ap₂, subst, _∙_}
-use mathlib.Core.Bool.{Bool, true, false, cond, _&&_}
+use mathlib.Core.Path.{_≡_, sym, ap, subst, _∙_}
+use mathlib.Core.Bool.{Bool, true, false, cond}
 use mathlib.Core.List.{List, map}
-use borrow.Author.Tests.{eqb-true}
-use lib.Dec.{eqb, leb}
-use lib.ListN.{length, getD}
-use lib.Seq.{getD-take, getD-drop}
+use lib.Dec.{eqb}
+use lib.ListN.{length}
 use Rattle.word.specs.Lists.{Below}
 use Rattle.word.proofs.Cond.{both}
 use Rattle.memory.proofs.OneCell.{load-small}
-use Rattle.ring.specs.Slots.{Ring, Sound, slot, slotBack}
+use Rattle.ring.specs.Slots.{Sound, slot, slotBack}
 use Rattle.ring.specs.Run.{Config}
 use Rattle.ring.specs.Back.{undone, allFit, takeBack}
 use Rattle.ring.proofs.Slots.{length-slot, slot-at, back-below}
 use Rattle.ring.proofs.Back.{fit-each, core-undone, core-fits, back-done}
 use Rattle.journal.specs.Journal.{slotsOf}
-use Rattle.record.specs.declared.Saved.{Saved}
 use Rattle.record.specs.declared.Saved.the-variants.{Nothing, Register, TlbRow, RamWord}
 use Rattle.record.specs.Layout.{savedAt, recordOf, recordAt, slotWord}
 use Rattle.step.specs.World.{World}
 use Rattle.undo.specs.Undo.{viewOf, undoOf}
-use Rattle.undo.specs.Fit.{Undoable, fitOf}
+use Rattle.undo.specs.Fit.{fitOf}
 use Rattle.undo.proofs.Laws.{fit-undoable}
 use Rattle.back.specs.Back as back
 use Rattle.back.specs.Back.{noRoms}
@@ -32,8 +29,9 @@ use Rattle.seek.specs.OnHand.{kthOf, heldOf}
 use Rattle.seek.specs.Latest.{wordBefore}
 use Rattle.seek.specs.Pcs.{newest, oldest}
 use Rattle.seek.specs.Seek.{hasWord, writesOf, pcOf, lastChangeOf, newestAtOf, oldestAtOf}
+use Rattle.seek.specs.declared.Sought.{Sought}
 use Rattle.told.specs.Told.{wordAt, pcAt, Tells, pcsAgo}
-use Rattle.told.proofs.Tells.{aligned, change-held, newest-held, oldest-held, scan-tells, pcs-are, tells-same}
+use Rattle.told.proofs.Tells.{aligned, change-held, newest-held, oldest-held, scan-tells, scan-only, pcs-are, tells-same}
 use Rattle.told.proofs.Word.{Small, word-undone}
 
 -- the old word that bytes say is a word
@@ -114,13 +112,19 @@ module _ (journal : List ℕ) (hand next : ℕ) (w : World) where
           word-undone (recordOf slot .saved) (undoneTo i .ram) place (able .ranged) (able .word) (slot-small slot (slot-long i l) (slot-bytes i l))
           (aligned (w .ram) place has)
 
-      -- THE LAW of last_change over taking back
+      -- THE LAW of last_change over taking back, and that no other answer keeps it
       pub back-tells : Tells takenBack hand place (lastChangeOf (w .ram) journal hand next place)
       unfolding undone
       back-tells =
           tells-same undoneTo takenBack hand taken-is place (lastChangeOf (w .ram) journal hand next place)
           (subst (Tells undoneTo hand place) (change-held journal hand next sound (w .ram) place has)
           (scan-tells journal hand next undoneTo place says))
+
+      pub back-only : (r : Sought) → Tells takenBack hand place r → r ≡ lastChangeOf (w .ram) journal hand next place
+      unfolding undone
+      back-only r told =
+          scan-only journal hand next undoneTo place says r (tells-same takenBack undoneTo hand (λ k l. sym (taken-is k l)) place r told)
+          ∙ change-held journal hand next sound (w .ram) place has
 
     pc-back : (i : ℕ) → i < hand → pcAt (takenBack (suc i)) ≡ pcOf (kthOf journal next (suc i))
     unfolding undone undoOf

@@ -5,22 +5,21 @@ use mathlib.Core.Path.{_≡_, sym, ap, subst}
 use mathlib.Core.Bool.{true}
 use mathlib.Core.List.{List}
 use lib.ListN.{length}
-use Rattle.ring.specs.Run.{Config}
 use Rattle.ring.specs.Calls.{net}
 use Rattle.ring.proofs.History.{Holds}
 use Rattle.journal.specs.Journal.{slotsOf}
 use Rattle.state.specs.Layout.{machineOf}
 use Rattle.state.specs.declared.machine.Journal.{Journal}
-use Rattle.run.specs.Run.{forward}
 use Rattle.back.specs.Back.{both}
 use Rattle.lavushmir.specs.Demand3.{Call, Host, Boot, Booted, calledAll, romsIn, resetTo, worldAt}
 use Rattle.lavushmir.proofs.Boot.{boot-allowed}
-use Rattle.lavushmir.proofs.Carried.{configAt, Carried, carried-start}
+use Rattle.lavushmir.proofs.Carried.{configAt, carried-start}
 use Rattle.lavushmir.proofs.Demand3.{carried-all}
 use Rattle.seek.specs.Pcs.{newest, oldest}
 use Rattle.seek.specs.Seek.{hasWord, lastChangeOf, newestAtOf, oldestAtOf}
+use Rattle.seek.specs.declared.Sought.{Sought}
 use Rattle.told.specs.Told.{Tells, pcsAgo, agoIn}
-use Rattle.told.proofs.History.{holds-tells, holds-newest, holds-oldest}
+use Rattle.told.proofs.History.{holds-tells, holds-only, holds-newest, holds-oldest}
 
 module _ (b : Boot) (p : Booted b) (calls : List Call) where
   abbrev h : Host
@@ -45,6 +44,14 @@ module _ (b : Boot) (p : Booted b) (calls : List Call) where
       holds-tells (romsIn b) (p .execution-bytes) (p .bootstrap-bytes) (worldAt (resetTo b)) (boot-allowed b p) (length (b .journal)) (net (h .events))
       (configAt b h) held place has
 
+  -- so each answer of it is told exactly where it holds
+  pub change-only : (place : ℕ) → hasWord (h .ram) place ≡ true → (r : Sought) → Tells (agoIn b h) (mark .«on_hand») place r →
+      r ≡ lastChangeOf (h .ram) (h .journal) (mark .«on_hand») (mark .«next_slot») place
+  change-only place has =
+      holds-only (romsIn b) (p .execution-bytes) (p .bootstrap-bytes) (worldAt (resetTo b)) (boot-allowed b p) (length (b .journal)) (net (h .events))
+      (configAt b h) held place has
+
+  -- newest_at and oldest_at, over the PCs that the steps on hand were made at
   pub newest-told : (pc : ℕ) → newestAtOf (h .journal) (mark .«on_hand») (mark .«next_slot») pc ≡ newest pc 0 (pcsAgo (agoIn b h) (mark .«on_hand»))
   newest-told pc =
       holds-newest (romsIn b) (p .execution-bytes) (p .bootstrap-bytes) (worldAt (resetTo b)) (boot-allowed b p) (length (b .journal)) (net (h .events))

@@ -1,7 +1,7 @@
 -- OVER THE STEPS THAT WERE RUN: after any runs and take-backs from a reset the answers tell what the machine's own steps did.
-use Prim.Native.Nat.{ℕ, suc, _+_, _-_, _*_, _%_, _^_, _≤_, _<_}
+use Prim.Native.Nat.{ℕ, suc, _-_, _%_, _^_, _<_}
 use native.Mathlib.Omega.{arith}
-use mathlib.Core.Path.{_≡_, refl, sym, ap, subst, _∙_}
+use mathlib.Core.Path.{_≡_, sym, ap, subst, _∙_}
 use mathlib.Core.Bool.{true}
 use mathlib.Core.List.{List, map}
 use lib.ListN.{length}
@@ -13,7 +13,7 @@ use Rattle.journal.specs.Journal.{slotsOf}
 use Rattle.record.specs.declared.Record.{Record}
 use Rattle.record.specs.declared.Saved.{Saved}
 use Rattle.record.specs.declared.Saved.the-variants.{Nothing, Register, TlbRow, RamWord}
-use Rattle.record.specs.Layout.{savedWords, recordBytes, recordOf}
+use Rattle.record.specs.Layout.{savedWords, recordBytes}
 use Rattle.step.specs.World.{World, Roms}
 use Rattle.step.specs.Step.{stepOf}
 use Rattle.step.specs.Note.{noteOf}
@@ -30,8 +30,9 @@ use Rattle.seek.specs.OnHand.{kthOf, heldOf}
 use Rattle.seek.specs.Latest.{wordBefore, scan}
 use Rattle.seek.specs.Pcs.{newest, oldest}
 use Rattle.seek.specs.Seek.{hasWord, writesIn, writesOf, pcOf, lastChangeOf, newestAtOf, oldestAtOf}
+use Rattle.seek.specs.declared.Sought.{Sought}
 use Rattle.told.specs.Told.{wordAt, pcAt, Tells, pcsAgo}
-use Rattle.told.proofs.Tells.{aligned, change-held, newest-held, oldest-held, scan-tells, pcs-are}
+use Rattle.told.proofs.Tells.{aligned, change-held, newest-held, oldest-held, scan-tells, scan-only, pcs-are}
 use Rattle.told.proofs.Word.{Small, word-undone}
 
 words-small : (s : Saved) → Below (2 ^ 32) (savedWords s) → Small s
@@ -86,13 +87,20 @@ module _ (roms : Roms) (execution : Below 256 (roms .execution)) (bootstrap : Be
         ∙ ap (λ (slot : List ℕ). wordBefore place (writesOf slot) (wordAt (stepOf roms (ago (suc i))) place)) (sym (h .records i l))
         ∙ ap (λ (u : World). wordBefore place (writesOf (kthOf (c .ring .bytes) (c .ring .next) (suc i))) (wordAt u place)) (one-step i l)
 
-    -- THE LAW of last_change over the steps
+    scanned : scan place (wordAt (ago 0) place) 0 (map writesOf (heldOf (c .ring .bytes) (c .ring .hand) (c .ring .next)))
+        ≡ lastChangeOf (c .state .ram) (c .ring .bytes) (c .ring .hand) (c .ring .next) place
+    scanned =
+        ap (λ (u : World). scan place (wordAt u place) 0 (map writesOf (heldOf (c .ring .bytes) (c .ring .hand) (c .ring .next)))) (sym now)
+        ∙ change-held (c .ring .bytes) (c .ring .hand) (c .ring .next) (h .sound) (c .state .ram) place has
+
+    -- THE LAW of last_change over the steps, and that no other answer keeps it
     pub holds-tells : Tells ago (c .ring .hand) place (lastChangeOf (c .state .ram) (c .ring .bytes) (c .ring .hand) (c .ring .next) place)
     holds-tells =
-        subst (Tells ago (c .ring .hand) place)
-        (ap (λ (u : World). scan place (wordAt u place) 0 (map writesOf (heldOf (c .ring .bytes) (c .ring .hand) (c .ring .next)))) (sym now)
-        ∙ change-held (c .ring .bytes) (c .ring .hand) (c .ring .next) (h .sound) (c .state .ram) place has)
-        (scan-tells (c .ring .bytes) (c .ring .hand) (c .ring .next) ago place says)
+        subst (Tells ago (c .ring .hand) place) scanned (scan-tells (c .ring .bytes) (c .ring .hand) (c .ring .next) ago place says)
+
+    pub holds-only : (r : Sought) → Tells ago (c .ring .hand) place r →
+        r ≡ lastChangeOf (c .state .ram) (c .ring .bytes) (c .ring .hand) (c .ring .next) place
+    holds-only r told = scan-only (c .ring .bytes) (c .ring .hand) (c .ring .next) ago place says r told ∙ scanned
 
   pcs : map pcOf (heldOf (c .ring .bytes) (c .ring .hand) (c .ring .next)) ≡ pcsAgo ago (c .ring .hand)
   pcs =

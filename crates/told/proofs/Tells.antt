@@ -6,9 +6,8 @@ use mathlib.Core.Bool.{Bool, true, false, cond}
 use mathlib.Core.List.{List, [], map}
 use borrow.Author.Tests.{eqb-true, le-leb, lt-ltb}
 use lib.Dec.{eqb, leb}
-use lib.ListN.{length, getD}
+use lib.ListN.{length}
 use lib.Seq.{ext-getD}
-use Rattle.word.specs.Lists.{tabulate}
 use Rattle.word.proofs.Cond.{both, and-true}
 use Rattle.word.proofs.Lists.{length-tabulate, getD-tabulate}
 use Rattle.memory.specs.Memory.{loadAt}
@@ -23,8 +22,8 @@ use Rattle.seek.specs.Seek.{hasWord, writesOf, pcOf, lastChangeOf, newestAtOf, 
 use Rattle.seek.specs.declared.Sought.{Sought}
 use Rattle.seek.specs.declared.Sought.the-variants.{At, Nothing}
 use Rattle.seek.proofs.OnHand.{held-long, held-at}
-use Rattle.seek.proofs.Latest.{scan-answers, back-more}
-use Rattle.told.specs.Told.{wordAt, pcAt, LastWrite, Tells, pcsAgo}
+use Rattle.seek.proofs.Latest.{scan-answers, one-answer, back-more}
+use Rattle.told.specs.Told.{wordAt, pcAt, Tells, pcsAgo}
 
 pub aligned : (ram : List ℕ) (place : ℕ) → hasWord ram place ≡ true → place % 4 ≡ 0
 aligned ram place has = eqb-true (place % 4) 0 (both (eqb (place % 4) 0) (leb (place + 4) (length ram)) has .0)
@@ -100,6 +99,25 @@ module _ (journal : List ℕ) (hand next : ℕ) where
 
       pub scan-tells : Tells ago hand place (scan place present 0 steps)
       scan-tells = tells (scan place present 0 steps) (scan-answers place present steps)
+
+      answers : (r : Sought) → Tells ago hand place r → Answers place steps present r
+      answers Nothing h = λ k l.
+          let low : k < hand = omega (arith, long) in
+          sym (word-back (suc k) low) ∙ h k low ∙ word-back k (omega arith)
+      answers (At zero old new) h = h
+      answers (At (suc k) old new) h =
+          let low : k < hand = h .within in
+          record {
+            within = omega (arith, long);
+            before = h .before ∙ word-back (suc k) low;
+            after = h .after ∙ word-back k (omega arith);
+            differ = h .differ;
+            newer = λ j l. sym (word-back (suc j) (omega arith)) ∙ h .newer j l ∙ word-back j (omega arith);
+          }
+
+      -- and no other answer does
+      pub scan-only : (r : Sought) → Tells ago hand place r → r ≡ scan place present 0 steps
+      scan-only r h = one-answer place present steps r (scan place present 0 steps) (answers r h) (scan-answers place present steps)
 
     -- ---- the PCs
 
