@@ -11,10 +11,10 @@ use Rattle.journal.specs.Journal.{slotsOf}
 use Rattle.state.specs.Layout.{machineOf}
 use Rattle.state.specs.declared.machine.Journal.{Journal}
 use Rattle.back.specs.Back.{both}
-use Rattle.lavushmir.specs.Demand3.{Call, Host, Boot, Booted, calledAll, romsIn, resetTo, worldAt}
-use Rattle.lavushmir.proofs.Boot.{boot-allowed}
-use Rattle.lavushmir.proofs.Carried.{configAt, carried-start}
-use Rattle.lavushmir.proofs.Demand3.{carried-all}
+use Rattle.demand3.specs.Demand3.{Call, Host, Boot, Booted, calledAll, romsIn, resetTo, worldAt}
+use Rattle.demand3.proofs.Boot.{boot-allowed}
+use Rattle.demand3.proofs.Carried.{configAt, carried-start}
+use Rattle.demand3.proofs.Demand3.{carried-all}
 use Rattle.seek.specs.Pcs.{newest, oldest}
 use Rattle.seek.specs.Seek.{hasWord, lastChangeOf, newestAtOf, oldestAtOf}
 use Rattle.seek.specs.declared.Sought.{Sought}

@@ -9,7 +9,7 @@ use Rattle.ring.specs.Machine.{iterate}
 use Rattle.ring.specs.Calls.{net}
 use Rattle.step.specs.World.{World}
 use Rattle.run.specs.Run.{forward}
-use Rattle.lavushmir.specs.Demand3.{Host, Boot, romsIn, resetTo, worldAt}
+use Rattle.demand3.specs.Demand3.{Host, Boot, romsIn, resetTo, worldAt}
 use Rattle.seek.specs.declared.Sought.{Sought}
 use Rattle.seek.specs.declared.Sought.the-variants.{At, Nothing}
 

@@ -7,7 +7,7 @@
 #[path = "../../../reference/tests/common/asm.rs"]
 mod asm;
 #[allow(dead_code)]
-#[path = "../../shared/dice.rs"]
+#[path = "../../common/dice.rs"]
 mod dice;
 
 mod archive;
