@@ -18,7 +18,8 @@ static uint8_t out[STATION_OUT_BYTES];
 
 static uint64_t shown(uint64_t answer)
 {
-    output_write(station_stream(answer), out, station_bytes(answer));
+    size_t count = station_bytes(answer);
+    output_write(station_stream(answer), out, count < sizeof out ? count : sizeof out);
     if (output_failed())
         input_stop();
     return answer;

@@ -1,11 +1,13 @@
 """test.py BUILD [PART ...] - the tests of a station's files. BUILD holds drive,
 drive-asan (with the sanitizers) and shim.so. Only the standard library."""
-import os, random, re, shutil, stat, subprocess, sys, time
+import os, random, re, shutil, subprocess, sys, time
 from concurrent.futures import ThreadPoolExecutor
+
+import damage
+from folders import get, put, tree
 
 B = os.path.abspath(sys.argv[1])
 PLAIN, ASAN, SHIM = B + "/drive", B + "/drive-asan", B + "/shim.so"
-ROOT = os.geteuid() == 0
 R = random.Random(20)
 
 
@@ -29,32 +31,6 @@ def ok(*args, **kw):
 def one_line(r, status, *words):
     assert r[0] == status and r[2].count("\n") == 1 and r[2].startswith("lavushmir: ") and "; " in r[2], r
     assert all(w in r[2] for w in words), (words, r)
-
-
-def tree(top):
-    """Everything a load must not change: kind, mode, size, times, links, bytes."""
-    out = {}
-    for path, dirs, names in os.walk(top):
-        for name in [""] + dirs + names:
-            p = os.path.join(path, name)
-            s = os.lstat(p)
-            data = os.readlink(p) if os.path.islink(p) else ""
-            if stat.S_ISREG(s.st_mode) and os.access(p, os.R_OK):
-                data = get(p)
-            out[p] = (s.st_mode, s.st_size, s.st_mtime_ns, s.st_ctime_ns, s.st_nlink, s.st_ino, data)
-    return out
-
-
-def put(path, data):
-    if os.path.lexists(path):
-        os.chmod(path, 0o644)
-    with open(path, "wb") as f:
-        f.write(data)
-
-
-def get(path):
-    with open(path, "rb") as f:
-        return f.read()
 
 
 STATE = {i: ok("state", i) for i in range(12)}
@@ -159,73 +135,13 @@ def big():
 
 
 def damage_one(i, base):
-    s, out = "%s/damaged-%d" % (B, i), B + "/outside"
-    shutil.copytree(base, s, symlinks=True)
-    os.chmod(s, 0o755)
-    r = random.Random(i)
-    inner = ["3/" + n for n in os.listdir(s + "/3")]
-    every = inner + ["current", "sums", "execution.rom", "bootstrap.rom"]
-    kinds = ["flip", "truncate", "extend", "delete", "folder", "symlink", "fifo", "device", "swap", "chmod",
-             "current", "huge", "nosums", "generation", "old-sums", "zeros"]
-    kind = kinds[i % len(kinds)]
-    name = r.choice(every)
-    p, user = s + "/" + name, None
-    data = get(p)
-    if kind == "flip":
-        k = r.randrange(len(data))
-        put(p, data[:k] + bytes([data[k] ^ (1 << r.randrange(8))]) + data[k + 1:])
-    elif kind == "truncate":
-        put(p, data[:r.randrange(len(data))])
-    elif kind == "extend":
-        put(p, data + r.choice([b"\0", b"\n", b"0", data, bytes(100000)]))
-    elif kind == "zeros":
-        put(p, bytes(len(data)))
-    elif kind in ("delete", "folder", "symlink", "fifo", "device"):
-        os.unlink(p)
-        if kind == "folder":
-            os.mkdir(p)
-        elif kind == "symlink":  # even to the right bytes, inside or outside, or to nothing
-            os.symlink(r.choice([base + "/" + name, "nothing", "..", p]), p)
-        elif kind == "fifo":
-            os.mkfifo(p)
-        elif kind == "device" and ROOT:
-            os.mknod(p, stat.S_IFCHR | 0o666, r.choice([os.makedev(1, 3), os.makedev(1, 5)]))
-    elif kind == "swap":
-        name2 = r.choice([n for n in every if get(s + "/" + n) != data] + ["2/ram", "2/image", "2/sums"])
-        other = get(s + "/" + name2)
-        put(s + "/" + name2, data)
-        put(p, other)
-    elif kind == "chmod":
-        p = r.choice([p, s + "/3", s])
-        os.chmod(p, 0)
-        user = 65534 if ROOT else None
-    elif kind == "current":
-        put(s + "/current", r.choice([b"", b"\n", b"3", b"0\n", b"03\n", b"-3\n", b"+3\n", b" 3\n", b"3 \n", b"3\n3\n",
-            b"3\n\n", b"4\n", b"3\0\n", b"\0" * 63, b"three\n", b"999999999\n", b"4294967299\n", b"../3\n",
-            b"18446744073709551619\n", b"3\r\n", b"1e0\n", b"3 0 0\n", b"2 " + data[2:], bytes(r.randrange(256) for _ in range(40))]))
-    elif kind == "huge":
-        put(s + "/current", r.choice([b"3", b"3\n", b"\0", b" "]) * r.choice([64, 65, 4096, 1 << 20]))
-    elif kind == "nosums":
-        os.unlink(s + "/" + r.choice(["sums", "3/sums"]))
-    elif kind == "generation":
-        how = r.randrange(4)
-        shutil.move(s + "/3", s + "/away")
-        if how == 1:
-            put(s + "/3", b"file")
-        elif how == 2:
-            os.symlink("away", s + "/3")
-        elif how == 3:
-            os.mkdir(s + "/3")
-    elif kind == "old-sums":
-        put(s + "/3/sums", r.choice([get(s + "/2/sums"), get(s + "/sums"), get(s + "/3/sums")[:-1], b"\n"]))
+    s = "%s/damaged-%d" % (B, i)
+    kind, name, user = damage.damage(i, base, s)
     before = tree(s)
     res = run("load", s, exe=ASAN if i % 3 == 0 else PLAIN, user=user)
     one_line(res, 3)
     assert res[1] == "" and tree(s) == before, (i, kind, name)
-    for d in (s, s + "/3"):
-        if os.path.isdir(d) and not os.path.islink(d):
-            os.chmod(d, 0o755)
-    shutil.rmtree(s)
+    damage.remove(s)
     return kind, re.sub(r".*(damaged-\d+)", "S", res[2])
 
 

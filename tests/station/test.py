@@ -1,0 +1,18 @@
+"""test.py BUILD [PART ...] - the program lavushmir from end to end. BUILD holds
+plain/ and checked/ (with sanitizers) as station/build.sh makes them, and
+shim.so. Only the standard library."""
+import os, sys, time
+
+sys.path.insert(1, os.path.join(os.path.dirname(os.path.abspath(__file__)), "../files"))
+import damages, faults, program, sessions, stations, statuses
+
+if __name__ == "__main__":
+    os.chdir(program.B)
+    stations.make_roms()
+    for part in (statuses, sessions, damages, faults):
+        if len(sys.argv) > 2 and part.__name__ not in sys.argv:  # for work on one part
+            continue
+        began = time.time()
+        part.main()
+        print("  %.1f s" % (time.time() - began), flush=True)
+    print("columns: the widest line has %d" % program.widest[1])
