@@ -4,14 +4,8 @@
 #include "input.h"
 #include "lent.h"
 #include "output.h"
-#include "say.h"
 #include "signals.h"
 #include "station.h"
-
-/* Where a save fails, a person's session goes on after the end of input. A
- * terminal that is gone ends again and again, and so does a program that was
- * told to end: the session is given up when that many ends came in a row. */
-enum { ENDS_MAX = 3 };
 
 static uint64_t session[STATION_SESSION_WORDS];
 static uint8_t out[STATION_OUT_BYTES];
@@ -83,22 +77,15 @@ int session_run(station *s, int on_terminal, int one_command)
 {
     uint64_t answer, event = STATION_EVENT_START;
     size_t file_bytes = 0;
-    int ends = 0;
     session[STATION_WORD_IS_THERE] = s->files.fd >= 0;
     session[STATION_WORD_ON_TERMINAL] = on_terminal != 0;
     session[STATION_WORD_ONE_COMMAND] = one_command != 0;
-    while (ends <= ENDS_MAX) {
+    for (;;) {
         answer = turn(event, file_bytes);
         if (station_wants(answer) == STATION_WANTS_OTHER && wants_other(s, session) == 0)
             answer = compare();
         if (station_wants(answer) == STATION_WANTS_END)
             return input_failed() || output_failed() ? STATION_EXIT_FILE : (int)station_status(answer);
         event = outcome(s, station_wants(answer), &file_bytes);
-        if (event == STATION_EVENT_END_OF_INPUT)
-            ends++;
-        else if (event == STATION_EVENT_LINE)
-            ends = 0;
     }
-    say(s->path, "was not saved since its last save", 0, "the session is given up");
-    return STATION_EXIT_FILE;
 }

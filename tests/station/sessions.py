@@ -2,8 +2,8 @@
 import os, pty, select, shutil, signal, subprocess, time
 
 from program import ARM, B, CHECKED, PLAIN, columns, command, one_line, run
-from stations import clock, make
 from folders import tree
+from stations import SMALL, clock, make
 
 # By the clock, from the signal to the end of the program or to the next prompt. On Arm an emulator
 # runs the program, and the bound is a wide one.
@@ -152,7 +152,7 @@ def not_saved(folder):
     t.expect(b"in the way of the next save", "no word about the failed save")
     t.expect(b"> ", "no prompt after a failed save")
     shutil.rmtree(s + "/2")
-    t.type(b"\x04")
+    t.type(b"quit\n")
     assert t.end() == 0 and clock(s) == 9
     os.mkdir(s + "/3")
     open(s + "/3/mine", "w").close()
@@ -187,6 +187,20 @@ def together(folder):
     return cases + 2
 
 
+def locked_new(folder):
+    """A station is held from the moment that it is there."""
+    s = B + "/new"
+    p = start(s, folder=folder, stdin=subprocess.PIPE, stdout=subprocess.PIPE)
+    p.stdin.write(" ".join(SMALL).encode() + b"\nsave\n")
+    p.stdin.flush()
+    wait_for(lambda: os.path.exists(s), "the first program makes no station")
+    one_line(run(s, "run", "1", folder=folder), 4, "in use by another program")
+    p.stdin.write(b"run 6\n")
+    assert p.communicate(timeout=60) and p.returncode == 0 and clock(s) == 6
+    shutil.rmtree(s)
+    return 1
+
+
 def main():
     prompts, runs, locked = [], [], 0
     for folder in (PLAIN, CHECKED):
@@ -194,7 +208,7 @@ def main():
         prompts.append(terminal(folder))
         at_the_prompt(folder)
         not_saved(folder)
-        locked += together(folder)
+        locked += together(folder) + locked_new(folder)
     print("sessions: 12 runs ended by SIGINT, SIGTERM or SIGHUP, the longest %.0f ms after the signal, all saved; "
           "Ctrl-C in a run on a terminal: a prompt after %.0f ms; %d programs kept out by the lock"
           % (1000 * runs[0], 1000 * prompts[0], locked))

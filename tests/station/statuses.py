@@ -93,14 +93,29 @@ def scripts(folder):
     assert clock(s) == 59
     ok(s, stdin=b"run " + b" " * (LINE - 5) + b"3\n", folder=folder)
     assert clock(s) == 62
+    ok(s, stdin=b"restore\nrun 1\n", folder=folder)  # what was restored is what runs
+    assert clock(s) == 60
     for line in (b"run " + b" " * (LINE - 4) + b"3", b"x" * (1 << 20), b"run 1\0", b"\0", b"\xff" * 99, b"run 1\r"):
         r = run(s, stdin=b"run 1\n" + line + b"\nrun 1000\n", folder=folder)
         assert r[0] == 1 and r[2].count("\n") == 1, (line[:9], r)
-    assert clock(s) == 68
+    assert clock(s) == 66
     one_line(run(s, stdin=open_folder(), folder=folder), 3, "standard input", "Is a directory")
     p = subprocess.run(["sh", "-c", 'exec "$@" <&-', "sh", *command((s,), folder)[0]], capture_output=True)
     assert p.returncode == 0, p  # closed: no line
     return 13
+
+
+def largest(folder):
+    """The largest machine, and files up to the length of its RAM and above it."""
+    s, full = B + "/largest", b"\xa5" * (16 << 20)
+    ok(s, "new", "ram", "4096", "paper", "65536", "journal", "65536", *SMALL[7:], folder=folder)
+    assert [len(f) for f in state(s).values()] == [501, 16 << 20, 65536, 16 << 20]
+    for more, status in ((b"", 0), (b"\xa5", 1), (bytes(9), 1)):
+        put(B + "/full", full + more)
+        r = run(s, "load", B + "/full", "0x20000000", folder=folder)
+        assert r[0] == status and state(s)["ram"] == full, (len(more), r)
+    shutil.rmtree(s)
+    return 4
 
 
 class open_folder:
@@ -134,7 +149,7 @@ def outputs(folder):
 def main():
     total = 0
     for folder in (PLAIN, CHECKED):
-        for part in (usage, no_station, commands, scripts, outputs):
+        for part in (usage, no_station, commands, scripts, outputs) + ((largest,) if folder == PLAIN else ()):
             total += part(folder)
         for n in ("commands", "commands-2", "scripts", "outputs"):
             shutil.rmtree(B + "/" + n)
