@@ -5,13 +5,14 @@
 #
 #     tests/station/run.sh ARCHIVE [PART ..]
 #
-# ARCHIVE is the x86-64 archive (rt staticlib station). PART: statuses,
+# ARCHIVE is the x86-64 archive (rt staticlib station). PART: answers, statuses,
 # sessions, damages, faults. Needs gcc and python3; on Arm gcc-x86-64-linux-gnu,
 # qemu-user and libc6:amd64.
 #
 # Two builds are tried, one of them with the compiler's checks for undefined
-# behaviour and for bad addresses. The second needs more memory than qemu can
-# give, so on Arm it is left out; tests/files has it on both.
+# behaviour and for bad addresses. The latter want more memory than qemu can
+# give, so on Arm this build goes without; the C side alone, beside a session
+# that answers by dice, has them on both.
 set -eu
 if [ $# -lt 1 ] || [ ! -f "$1" ]; then
     echo "usage: $0 ARCHIVE [PART ..]" >&2
@@ -31,5 +32,7 @@ esac
 "$here/../../station/build.sh" "$archive" "$build/plain"
 "$here/../../station/build.sh" "$archive" "$build/checked" -g $checks -fno-sanitize-recover=all
 $cc -O1 -fPIC -shared -Wall -Wextra -Werror -o "$build/shim.so" "$here/../files/shim.c"
+gcc -std=c99 -D_POSIX_C_SOURCE=200809L -Wall -Wextra -pedantic -Werror -O1 -g -fsanitize=address,undefined \
+    -fno-sanitize-recover=all -I "$here/../../include" "$here/any.c" "$here"/../../station/*.c -o "$build/any"
 PYTHONDONTWRITEBYTECODE=1 python3 "$here/test.py" "$build" "$@"
 echo "tests/station: all passed"

@@ -40,11 +40,14 @@ def interrupted(folder):
             if script:
                 p.stdin.write(script)
                 p.stdin.flush()
-            wait_for(lambda: busy(p), "the run does not begin")
-            began = time.time()
-            p.send_signal(number)
-            out, err = p.communicate(timeout=60)
-            took = time.time() - began
+            try:
+                wait_for(lambda: busy(p), "the run does not begin")
+                began = time.time()
+                p.send_signal(number)
+                out, err = p.communicate(timeout=20)
+                took = time.time() - began
+            finally:
+                p.kill()
             assert p.returncode in (0, 1) and b"Sanitizer" not in err, (number, p.returncode, err)
             steps = clock(s)
             assert steps > 0 and steps % 100000 == 0, (number, steps)

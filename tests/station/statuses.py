@@ -128,18 +128,20 @@ class open_folder:
 
 
 def outputs(folder):
-    """Standard output that takes no more: status 3, one line, and the station is saved."""
+    """Standard output that takes no more: status 3, one line, no further command, and the station is saved."""
     s, cases = make(B + "/outputs"), 0
+    put(B + "/page", b"\x5a" * 4096)
+    lines = b"run 11\nload %s 0x20000000\nrun 1000\n" % os.fsencode(B + "/page")
     for redirect in ("> /dev/full", ">&-", "| true"):
         steps = clock(s)
         script = 'sleep 0.05; "$@" %s; echo "status $?"' % redirect
         if redirect == "| true":
             script = 'set -o pipefail; { sleep 0.3; "$@"; echo "status $?" >&2; } | true'
-        p = subprocess.run(["bash", "-c", script, "bash", *command((s,), folder)[0]], input=b"run 11\nrun 1000\n",
+        p = subprocess.run(["bash", "-c", script, "bash", *command((s,), folder)[0]], input=lines,
                            capture_output=True)
         said = (p.stdout + p.stderr).decode()
         assert "status 3\n" in said and said.count("lavushmir: standard output: cannot be written") == 1, (redirect, said)
-        assert clock(s) == steps + 11, (redirect, clock(s) - steps)
+        assert clock(s) == steps + 11 and state(s)["ram"][-1] == 0, (redirect, clock(s) - steps)
         cases += 1
     with open("/dev/full", "wb") as full:
         one_line(run("--help", stdout=full, folder=folder), 3, "standard output")

@@ -1,15 +1,15 @@
 """test.py BUILD [PART ...] - the program lavushmir from end to end. BUILD holds
-plain/ and checked/ (with sanitizers) as station/build.sh makes them, and
-shim.so. Only the standard library."""
+plain/ and checked/ (with sanitizers) as station/build.sh makes them, any (any.c
+with the C side) and shim.so. Only the standard library."""
 import os, sys, time
 
 sys.path.insert(1, os.path.join(os.path.dirname(os.path.abspath(__file__)), "../files"))
-import damages, faults, program, sessions, stations, statuses
+import answers, damages, faults, program, sessions, stations, statuses
 
 if __name__ == "__main__":
     os.chdir(program.B)
     stations.make_roms()
-    for part in (statuses, sessions, damages, faults):
+    for part in (answers, statuses, sessions, damages, faults):
         if len(sys.argv) > 2 and part.__name__ not in sys.argv:  # for work on one part
             continue
         began = time.time()
