@@ -7,7 +7,7 @@ from concurrent.futures import ThreadPoolExecutor
 from folders import get, put
 from program import B
 
-COUNT = 200
+COUNT = 100
 EVENTS = 14
 
 

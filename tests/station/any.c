@@ -69,7 +69,7 @@ static uint64_t answer(uint64_t *session, size_t line_bytes, size_t out_bytes)
         session[STATION_WORD_NAME_TO] = session[STATION_WORD_SECOND_TO] = line_bytes;
     }
     for (int i = 0; i < 3; i++)
-        session[STATION_WORD_RAM_BYTES + i] = dice(4) > 0 ? limits[i] : length(limits[i]);
+        session[STATION_WORD_RAM_BYTES + i] = dice(8) > 0 ? 4096 : length(limits[i]);
     if (wants == STATION_WANTS_END && turns < TURNS / 2)
         wants = STATION_WANTS_INPUT;
     allowed = wants < sizeof follows / sizeof *follows ? follows[wants] : follows[STATION_WANTS_GO_ON];

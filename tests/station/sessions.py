@@ -96,7 +96,8 @@ class Terminal:
             except OSError:
                 raise AssertionError((what, self.seen))
         head, self.seen = self.seen.split(text, 1)
-        columns(head.replace(b"\r", b"\n"))
+        if b"x" * 99 not in head:  # what the person typed
+            columns(head.replace(b"\r", b"\n"))
         return head
 
     def end(self):
@@ -112,7 +113,7 @@ class Terminal:
 
 
 def terminal(folder):
-    """A person at the prompt: Ctrl-C there, Ctrl-C in a run, a refused line, Ctrl-D."""
+    """A person at the prompt: Ctrl-C there and in a run, a refused line, one that is too long, Ctrl-D."""
     s = make(B + "/terminal")
     t = Terminal(s, folder)
     prompt = b"> "
@@ -121,6 +122,8 @@ def terminal(folder):
     t.expect(prompt, "no new prompt after Ctrl-C")
     t.type(b"back 99\n")
     t.expect(prompt, "no prompt after a refused line")
+    t.type(b"x" * 1100 + b"\n")
+    t.expect(prompt, "no prompt after a line that is too long")
     t.type(b"run 7\n")
     t.expect(prompt, "no prompt after a run")
     t.type(FOR_EVER + b"\n")
