@@ -1,0 +1,5 @@
+pub mod Runs
+pub mod Values
+pub mod Laying
+pub mod Spelling
+pub mod Numbers

@@ -1,0 +1,30 @@
+-- `text::write::face` meets its contract.
+use borrow.Author.Tests.{lt-ltb, le-ltb}
+use Rattle.text.specs.Spelt.{faceOf}
+use borrow.Author.Needs.{needs}
+use Rattle.text.proofs.write.face.Statement.{statement}
+use Rattle.text.proofs.write.face.Tie as tie
+
+cast-result : tie.Need-cast-result
+cast-result c = search needs
+
+add-result : tie.Need-add-result
+add-result c = search needs
+
+returns : tie.Need-returns
+unfolding faceOf
+returns c = rw (lt-ltb _ _ (c .if1 .taken))
+
+cast-result-2 : tie.Need-cast-result-2
+cast-result-2 c = search needs
+
+add-result-2 : tie.Need-add-result-2
+add-result-2 c = search needs
+
+returns-2 : tie.Need-returns-2
+unfolding faceOf
+returns-2 c = rw (le-ltb _ _ (c .if1 .left))
+
+pub face-spec : {M : Type 1} → statement M
+face-spec =
+    tie.close (tie.spec cast-result add-result returns cast-result-2 add-result-2 returns-2)
