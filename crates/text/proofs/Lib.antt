@@ -1,3 +1,4 @@
+pub mod Heads
 pub mod Runs
 pub mod Values
 pub mod Laying

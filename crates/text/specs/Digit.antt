@@ -1,8 +1,9 @@
 -- Digits: what a byte is worth as one, how many stand at the head of a list of bytes, and the number that they write.
 use mathlib.Core.Bool.{Bool, cond}
 use mathlib.Core.List.{List, [], _∷_}
-use Prim.Native.Nat.{ℕ, suc, _+_, _*_, _-_}
+use Prim.Native.Nat.{ℕ, _+_, _*_, _-_}
 use lib.Dec.{ltb, leb}
+use Rattle.text.specs.Head.{headOf}
 
 -- `0` to `9`, `A` to `F`, `a` to `f`; 16 for a byte that is no digit
 unfoldable pub digitOf : ℕ → ℕ
@@ -17,10 +18,8 @@ digitOf b =
 abbrev pub isDigit : ℕ → ℕ → Bool
 isDigit base b = ltb (digitOf b) base
 
--- how many bytes at the head are digits
-unfoldable pub runOf : ℕ → List ℕ → ℕ
-runOf base [] = 0
-runOf base (b ∷ s) = cond (isDigit base b) (suc (runOf base s)) 0
+abbrev pub runOf : ℕ → List ℕ → ℕ
+runOf base s = headOf (isDigit base) s
 
 -- the number that digits write behind others, which are worth v
 unfoldable pub valueFrom : ℕ → ℕ → List ℕ → ℕ

@@ -1,3 +1,4 @@
+pub mod Head
 pub mod Digit
 pub mod Number
 pub mod Laid

@@ -1,6 +1,6 @@
 -- `text::read::digits` meets its contract.
 use mathlib.Core.Path.{sym, _∙_}
-use Rattle.text.proofs.Runs.{run-within}
+use Rattle.text.proofs.Heads.{head-within}
 use Rattle.text.proofs.Numbers.{digits-none, digits-some}
 use borrow.Author.Needs.{needs}
 use Rattle.text.proofs.read.digits.Statement.{statement}
@@ -19,7 +19,7 @@ part-sum-start : tie.Need-part-sum-start
 part-sum-start c = search needs
 
 part-sum-end : tie.Need-part-sum-end
-part-sum-end c = run-within _ _ _ _ (c .before .digits-end .ensures) (c .if1 .left)
+part-sum-end c = head-within _ _ _ _ (c .before .digits-end .ensures) (c .if1 .left)
 
 sum-requires : tie.Need-sum-requires
 sum-requires c κs = search needs

@@ -4,7 +4,8 @@ use Prim.Native.Nat.{_+_, _-_}
 use lib.ListN.{length, drop}
 use borrow.Author.Needs.{needs}
 use Rattle.text.specs.Digit.{runOf}
-use Rattle.text.proofs.Runs.{run-past, run-stops, run-goes}
+use Rattle.text.proofs.Heads.{head-past}
+use Rattle.text.proofs.Runs.{run-stops, run-goes}
 use Rattle.text.proofs.read.digits_end.Statement.{statement}
 use Rattle.text.proofs.read.digits_end.Tie as tie
 
@@ -33,7 +34,7 @@ loop-again : tie.Need-loop-again Inv-loop μ-loop
 loop-again c = run-goes _ _ _ _ (search needs) (c .before .digit .ensures) (c .if2 .left) ∙ c .before .before .before .before .loop .inv
 
 returns : tie.Need-returns Inv-loop μ-loop
-returns c = sym (run-past _ _ _ (c .if1 .taken)) ∙ c .before .loop .inv
+returns c = sym (head-past _ _ _ (c .if1 .taken)) ∙ c .before .loop .inv
 
 returns-2 : tie.Need-returns-2 Inv-loop μ-loop
 returns-2 c = sym (run-stops _ _ _ _ (search needs) (c .before .digit .ensures) (c .if2 .taken)) ∙ c .before .before .before .before .loop .inv

@@ -1,0 +1,96 @@
+// The forms that several commands share.
+use crate::mark::Count;
+use crate::mark::Mark;
+use crate::mark::Named;
+use crate::mark::end;
+use crate::mark::gap;
+use crate::mark::name;
+use crate::mark::number;
+use crate::mark::word;
+
+// The forms of the language, by what they ask for.
+pub enum Form {
+    New,
+    Load,
+    Compare,
+    Save,
+    Restore,
+    Quit,
+    Abandon,
+    Run,
+    RunToException,
+    Step,
+    Back,
+    Blame,
+    Before,
+    Registers,
+    Cp0,
+    Tlb,
+    Clocks,
+    Printers,
+    Station,
+    Paper,
+    Papers,
+    Examine,
+    Physical,
+    Help,
+}
+
+// A line read by one form: how far the form fits, and the number that it holds where it fits whole.
+pub struct Reading {
+    pub mark: Mark,
+    pub form: Form,
+    pub value: u64,
+}
+
+// The one that fits; where none does, the one that fits further.
+pub fn better(a: Reading, b: Reading) -> Reading {
+    if a.mark.fits {
+        return a;
+    }
+    if b.mark.fits {
+        return b;
+    }
+    if a.mark.reached < b.mark.reached {
+        return b;
+    }
+    a
+}
+
+// A word alone.
+pub fn plain(line: &[u8], m: Mark, first: &[u8], form: Form, value: u64) -> Reading {
+    let mark = end(line, word(line, m, first));
+    Reading { mark, form, value }
+}
+
+// Two words.
+pub fn pair(line: &[u8], m: Mark, first: &[u8], second: &[u8], form: Form, value: u64) -> Reading {
+    let mark = end(line, word(line, gap(line, word(line, m, first)), second));
+    Reading { mark, form, value }
+}
+
+// A word and a number.
+pub fn numbered(line: &[u8], m: Mark, first: &[u8], form: Form) -> Reading {
+    let n = counted(line, word(line, m, first));
+    let mark = n.mark;
+    Reading {
+        mark,
+        form,
+        value: n.value,
+    }
+}
+
+// A number behind what was read, at the line's end.
+pub fn counted(line: &[u8], m: Mark) -> Count {
+    let n = number(line, gap(line, m));
+    let mark = end(line, n.mark);
+    Count {
+        value: n.value,
+        mark,
+    }
+}
+
+// A name behind what was read.
+pub fn named(line: &[u8], m: Mark) -> Named {
+    name(line, gap(line, m))
+}

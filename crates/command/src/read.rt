@@ -1,0 +1,95 @@
+// A line as a command.
+use crate::form::Form;
+use crate::form::Reading;
+use crate::form::named;
+use crate::fresh::making;
+use crate::help::helping;
+use crate::kinds::Command;
+use crate::kinds::Span;
+use crate::look::looking;
+use crate::mark::Mark;
+use crate::mark::Named;
+use crate::mark::behind_spaces;
+use crate::mark::stands;
+use crate::mark::word;
+use crate::table::forms;
+
+pub fn command(line: &[u8]) -> Command {
+    let at = behind_spaces(line, 0);
+    if line.len() <= at {
+        return Command::Nothing;
+    }
+    if stands(line, at, b'#') {
+        return Command::Nothing;
+    }
+    let start = Mark {
+        at,
+        fits: true,
+        reached: at,
+    };
+    said(line, start, forms(line, start))
+}
+
+fn said(line: &[u8], start: Mark, reading: Reading) -> Command {
+    if reading.mark.fits {
+        let form = reading.form;
+        return asked(line, start, form, reading.value);
+    }
+    Command::Refused(reading.mark.reached)
+}
+
+// The command of a form that fits, with the number that it holds.
+fn asked(line: &[u8], start: Mark, form: Form, value: u64) -> Command {
+    match form {
+        Form::New => new(line, start),
+        Form::Load => Command::Load(name_behind(line, start, b"load"), value),
+        Form::Compare => Command::Compare(name_behind(line, start, b"compare")),
+        Form::Save => Command::Save,
+        Form::Restore => Command::Restore,
+        Form::Quit => Command::Quit,
+        Form::Abandon => Command::Abandon,
+        Form::Run => Command::Run(value),
+        Form::RunToException => Command::RunToException(value),
+        Form::Step => Command::Step(value),
+        Form::Back => Command::Back(value),
+        Form::Blame => Command::Blame(value),
+        Form::Before => Command::Before(value),
+        Form::Registers => Command::Registers,
+        Form::Cp0 => Command::Cp0,
+        Form::Tlb => Command::Tlb,
+        Form::Clocks => Command::Clocks,
+        Form::Printers => Command::Printers,
+        Form::Station => Command::Station,
+        Form::Paper => Command::Paper(value),
+        Form::Papers => Command::Papers,
+        Form::Examine => examine(line, start, b"x", false),
+        Form::Physical => examine(line, start, b"xp", true),
+        Form::Help => help(line, start),
+    }
+}
+
+fn new(line: &[u8], start: Mark) -> Command {
+    let made = making(line, start);
+    let fresh = made.fresh;
+    Command::New(fresh)
+}
+
+fn examine(line: &[u8], start: Mark, name: &[u8], physical: bool) -> Command {
+    let seen = looking(line, start, name, physical);
+    let look = seen.look;
+    Command::Examine(look)
+}
+
+fn help(line: &[u8], start: Mark) -> Command {
+    let asked = helping(line, start);
+    let topic = asked.topic;
+    Command::Help(topic)
+}
+
+fn name_behind(line: &[u8], start: Mark, first: &[u8]) -> Span {
+    let n = named(line, word(line, start, first));
+    Span {
+        from: n.from,
+        to: n.to,
+    }
+}
