@@ -1,1 +1,8 @@
+pub mod Words
 pub mod Mark
+pub mod Form
+pub mod Fresh
+pub mod Look
+pub mod Help
+pub mod Table
+pub mod Line

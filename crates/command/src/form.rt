@@ -7,6 +7,8 @@ use crate::mark::gap;
 use crate::mark::name;
 use crate::mark::number;
 use crate::mark::word;
+ghost use mathlib.Core.Path.{_≡_};
+ghost use Rattle.command.specs.Form.{betterOf, plainOf, pairOf, numberedOf, countedOf, namedOf};
 
 // The forms of the language, by what they ask for.
 pub enum Form {
@@ -44,7 +46,9 @@ pub struct Reading {
 }
 
 // The one that fits; where none does, the one that fits further.
-pub fn better(a: Reading, b: Reading) -> Reading {
+pub fn better(a: Reading, b: Reading) -> Reading
+    ensures { λ r. ⌜ r ≡ betterOf a b ⌝ }
+{
     if a.mark.fits {
         return a;
     }
@@ -58,19 +62,25 @@ pub fn better(a: Reading, b: Reading) -> Reading {
 }
 
 // A word alone.
-pub fn plain(line: &[u8], m: Mark, first: &[u8], form: Form, value: u64) -> Reading {
+pub fn plain(line: &[u8], m: Mark, first: &[u8], form: Form, value: u64) -> Reading
+    ensures { λ r. ⌜ r ≡ plainOf (now (line .entry)) m (now (first .entry)) form value ⌝ }
+{
     let mark = end(line, word(line, m, first));
     Reading { mark, form, value }
 }
 
 // Two words.
-pub fn pair(line: &[u8], m: Mark, first: &[u8], second: &[u8], form: Form, value: u64) -> Reading {
+pub fn pair(line: &[u8], m: Mark, first: &[u8], second: &[u8], form: Form, value: u64) -> Reading
+    ensures { λ r. ⌜ r ≡ pairOf (now (line .entry)) m (now (first .entry)) (now (second .entry)) form value ⌝ }
+{
     let mark = end(line, word(line, gap(line, word(line, m, first)), second));
     Reading { mark, form, value }
 }
 
 // A word and a number.
-pub fn numbered(line: &[u8], m: Mark, first: &[u8], form: Form) -> Reading {
+pub fn numbered(line: &[u8], m: Mark, first: &[u8], form: Form) -> Reading
+    ensures { λ r. ⌜ r ≡ numberedOf (now (line .entry)) m (now (first .entry)) form ⌝ }
+{
     let n = counted(line, word(line, m, first));
     let mark = n.mark;
     Reading {
@@ -81,7 +91,9 @@ pub fn numbered(line: &[u8], m: Mark, first: &[u8], form: Form) -> Reading {
 }
 
 // A number behind what was read, at the line's end.
-pub fn counted(line: &[u8], m: Mark) -> Count {
+pub fn counted(line: &[u8], m: Mark) -> Count
+    ensures { λ r. ⌜ r ≡ countedOf (now (line .entry)) m ⌝ }
+{
     let n = number(line, gap(line, m));
     let mark = end(line, n.mark);
     Count {
@@ -91,6 +103,8 @@ pub fn counted(line: &[u8], m: Mark) -> Count {
 }
 
 // A name behind what was read.
-pub fn named(line: &[u8], m: Mark) -> Named {
+pub fn named(line: &[u8], m: Mark) -> Named
+    ensures { λ r. ⌜ r ≡ namedOf (now (line .entry)) m ⌝ }
+{
     name(line, gap(line, m))
 }

@@ -9,13 +9,17 @@ use crate::mark::end;
 use crate::mark::gap;
 use crate::mark::number;
 use crate::mark::word;
+ghost use mathlib.Core.Path.{_≡_};
+ghost use Rattle.command.specs.Fresh.{makingOf, settingOf, fileOf};
 
 pub struct Made {
     pub mark: Mark,
     pub fresh: Fresh,
 }
 
-pub fn making(line: &[u8], m: Mark) -> Made {
+pub fn making(line: &[u8], m: Mark) -> Made
+    ensures { λ r. ⌜ r ≡ makingOf (now (line .entry)) m ⌝ }
+{
     let ram = setting(line, word(line, m, b"new"), b"ram", 64);
     let paper = setting(line, ram.mark, b"paper", 8192);
     let journal = setting(line, paper.mark, b"journal", 4096);
@@ -47,7 +51,9 @@ pub fn making(line: &[u8], m: Mark) -> Made {
 }
 
 // A word and a number, or neither and the value that the setting has then.
-fn setting(line: &[u8], m: Mark, keyword: &[u8], or: u64) -> Count {
+fn setting(line: &[u8], m: Mark, keyword: &[u8], or: u64) -> Count
+    ensures { λ r. ⌜ r ≡ settingOf (now (line .entry)) m (now (keyword .entry)) or ⌝ }
+{
     let tried = word(line, gap(line, m), keyword);
     if tried.fits {
         return number(line, gap(line, tried));
@@ -63,6 +69,8 @@ fn setting(line: &[u8], m: Mark, keyword: &[u8], or: u64) -> Count {
 }
 
 // A word and a name.
-fn file(line: &[u8], m: Mark, keyword: &[u8]) -> Named {
+fn file(line: &[u8], m: Mark, keyword: &[u8]) -> Named
+    ensures { λ r. ⌜ r ≡ fileOf (now (line .entry)) m (now (keyword .entry)) ⌝ }
+{
     named(line, word(line, gap(line, m), keyword))
 }

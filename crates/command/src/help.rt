@@ -4,6 +4,8 @@ use crate::mark::Mark;
 use crate::mark::end;
 use crate::mark::gap;
 use crate::mark::word;
+ghost use mathlib.Core.Path.{_≡_};
+ghost use Rattle.command.specs.Help.{nearerOf, aboutOf, helpingOf, ofMachine, ofStation};
 
 pub struct Asked {
     pub mark: Mark,
@@ -11,7 +13,9 @@ pub struct Asked {
 }
 
 // The one that fits; where none does, the one that fits further.
-fn nearer(a: Asked, b: Asked) -> Asked {
+fn nearer(a: Asked, b: Asked) -> Asked
+    ensures { λ r. ⌜ r ≡ nearerOf a b ⌝ }
+{
     if a.mark.fits {
         return a;
     }
@@ -24,12 +28,16 @@ fn nearer(a: Asked, b: Asked) -> Asked {
     a
 }
 
-fn about(line: &[u8], m: Mark, second: &[u8], topic: Topic) -> Asked {
+fn about(line: &[u8], m: Mark, second: &[u8], topic: Topic) -> Asked
+    ensures { λ r. ⌜ r ≡ aboutOf (now (line .entry)) m (now (second .entry)) topic ⌝ }
+{
     let mark = end(line, word(line, gap(line, m), second));
     Asked { mark, topic }
 }
 
-pub fn helping(line: &[u8], m: Mark) -> Asked {
+pub fn helping(line: &[u8], m: Mark) -> Asked
+    ensures { λ r. ⌜ r ≡ helpingOf (now (line .entry)) m ⌝ }
+{
     let help = word(line, m, b"help");
     let mark = end(line, help);
     let all = Asked {
@@ -39,7 +47,9 @@ pub fn helping(line: &[u8], m: Mark) -> Asked {
     nearer(all, nearer(of_machine(line, help), of_station(line, help)))
 }
 
-fn of_machine(line: &[u8], m: Mark) -> Asked {
+fn of_machine(line: &[u8], m: Mark) -> Asked
+    ensures { λ r. ⌜ r ≡ ofMachine (now (line .entry)) m ⌝ }
+{
     let a = about(line, m, b"load", Topic::Load);
     let a = nearer(a, about(line, m, b"run", Topic::Run));
     let a = nearer(a, about(line, m, b"stepi", Topic::Step));
@@ -50,7 +60,9 @@ fn of_machine(line: &[u8], m: Mark) -> Asked {
     nearer(a, about(line, m, b"paper", Topic::Paper))
 }
 
-fn of_station(line: &[u8], m: Mark) -> Asked {
+fn of_station(line: &[u8], m: Mark) -> Asked
+    ensures { λ r. ⌜ r ≡ ofStation (now (line .entry)) m ⌝ }
+{
     let a = about(line, m, b"new", Topic::New);
     let a = nearer(a, about(line, m, b"x", Topic::Examine));
     let a = nearer(a, about(line, m, b"compare", Topic::Compare));

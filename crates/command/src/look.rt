@@ -9,6 +9,9 @@ use crate::mark::fails;
 use crate::mark::goes_on;
 use crate::mark::word;
 use text::Number;
+ghost use mathlib.Core.Path.{_≡_};
+ghost use Rattle.text.specs.Number.{decimalAt};
+ghost use Rattle.command.specs.Look.{lookingOf, shapeOf, timesOf, formatOf, unitOf};
 
 // What stands behind the slash.
 struct Shape {
@@ -33,7 +36,9 @@ pub struct Seen {
     pub look: Look,
 }
 
-pub fn looking(line: &[u8], m: Mark, name: &[u8], physical: bool) -> Seen {
+pub fn looking(line: &[u8], m: Mark, name: &[u8], physical: bool) -> Seen
+    ensures { λ r. ⌜ r ≡ lookingOf (now (line .entry)) m (now (name .entry)) physical ⌝ }
+{
     let shape = behind_slash(line, word(line, m, name));
     let address = counted(line, shape.mark);
     let mark = address.mark;
@@ -49,7 +54,9 @@ pub fn looking(line: &[u8], m: Mark, name: &[u8], physical: bool) -> Seen {
     Seen { mark, look }
 }
 
-fn behind_slash(line: &[u8], m: Mark) -> Shape {
+fn behind_slash(line: &[u8], m: Mark) -> Shape
+    ensures { λ r. ⌜ r ≡ shapeOf (now (line .entry)) m ⌝ }
+{
     let slash = word(line, m, b"/");
     if !slash.fits {
         return Shape {
@@ -74,12 +81,16 @@ fn behind_slash(line: &[u8], m: Mark) -> Shape {
 }
 
 // A decimal number, or 1 where none stands there.
-fn count(line: &[u8], m: Mark) -> Count {
+fn count(line: &[u8], m: Mark) -> Count
+    ensures { λ r. ⌜ r ≡ timesOf m (decimalAt (now (line .entry)) (m .at)) ⌝ }
+{
     let found = text::decimal(line, m.at);
     count_of(m, found)
 }
 
-fn count_of(m: Mark, found: Number) -> Count {
+fn count_of(m: Mark, found: Number) -> Count
+    ensures { λ r. ⌜ r ≡ timesOf m found ⌝ }
+{
     match found {
         Number::Value(value, next) => Count {
             value,
@@ -93,7 +104,9 @@ fn count_of(m: Mark, found: Number) -> Count {
     }
 }
 
-fn format(line: &[u8], m: Mark) -> Faced {
+fn format(line: &[u8], m: Mark) -> Faced
+    ensures { λ r. ⌜ r ≡ formatOf (now (line .entry)) m ⌝ }
+{
     let x = word(line, m, b"x");
     if x.fits {
         return Faced {
@@ -128,7 +141,9 @@ fn format(line: &[u8], m: Mark) -> Faced {
     }
 }
 
-fn unit(line: &[u8], m: Mark) -> Sized {
+fn unit(line: &[u8], m: Mark) -> Sized
+    ensures { λ r. ⌜ r ≡ unitOf (now (line .entry)) m ⌝ }
+{
     let b = word(line, m, b"b");
     if b.fits {
         return Sized {

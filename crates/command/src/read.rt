@@ -13,8 +13,15 @@ use crate::mark::behind_spaces;
 use crate::mark::stands;
 use crate::mark::word;
 use crate::table::forms;
+ghost use mathlib.Core.Path.{_≡_};
+ghost use Rattle.command.specs.Fresh.{makingOf};
+ghost use Rattle.command.specs.Look.{lookingOf};
+ghost use Rattle.command.specs.Help.{helpingOf};
+ghost use Rattle.command.specs.Line.{commandOf, saidOf, askedOf, nameBehind};
 
-pub fn command(line: &[u8]) -> Command {
+pub fn command(line: &[u8]) -> Command
+    ensures { λ r. ⌜ r ≡ commandOf (now (line .entry)) ⌝ }
+{
     let at = behind_spaces(line, 0);
     if line.len() <= at {
         return Command::Nothing;
@@ -30,7 +37,9 @@ pub fn command(line: &[u8]) -> Command {
     said(line, start, forms(line, start))
 }
 
-fn said(line: &[u8], start: Mark, reading: Reading) -> Command {
+fn said(line: &[u8], start: Mark, reading: Reading) -> Command
+    ensures { λ r. ⌜ r ≡ saidOf (now (line .entry)) start reading ⌝ }
+{
     if reading.mark.fits {
         let form = reading.form;
         return asked(line, start, form, reading.value);
@@ -39,7 +48,9 @@ fn said(line: &[u8], start: Mark, reading: Reading) -> Command {
 }
 
 // The command of a form that fits, with the number that it holds.
-fn asked(line: &[u8], start: Mark, form: Form, value: u64) -> Command {
+fn asked(line: &[u8], start: Mark, form: Form, value: u64) -> Command
+    ensures { λ r. ⌜ r ≡ askedOf (now (line .entry)) start form value ⌝ }
+{
     match form {
         Form::New => new(line, start),
         Form::Load => Command::Load(name_behind(line, start, b"load"), value),
@@ -68,25 +79,33 @@ fn asked(line: &[u8], start: Mark, form: Form, value: u64) -> Command {
     }
 }
 
-fn new(line: &[u8], start: Mark) -> Command {
+fn new(line: &[u8], start: Mark) -> Command
+    ensures { λ r. ⌜ r ≡ Command.New (makingOf (now (line .entry)) start .fresh) ⌝ }
+{
     let made = making(line, start);
     let fresh = made.fresh;
     Command::New(fresh)
 }
 
-fn examine(line: &[u8], start: Mark, name: &[u8], physical: bool) -> Command {
+fn examine(line: &[u8], start: Mark, name: &[u8], physical: bool) -> Command
+    ensures { λ r. ⌜ r ≡ Command.Examine (lookingOf (now (line .entry)) start (now (name .entry)) physical .look) ⌝ }
+{
     let seen = looking(line, start, name, physical);
     let look = seen.look;
     Command::Examine(look)
 }
 
-fn help(line: &[u8], start: Mark) -> Command {
+fn help(line: &[u8], start: Mark) -> Command
+    ensures { λ r. ⌜ r ≡ Command.Help (helpingOf (now (line .entry)) start .topic) ⌝ }
+{
     let asked = helping(line, start);
     let topic = asked.topic;
     Command::Help(topic)
 }
 
-fn name_behind(line: &[u8], start: Mark, first: &[u8]) -> Span {
+fn name_behind(line: &[u8], start: Mark, first: &[u8]) -> Span
+    ensures { λ r. ⌜ r ≡ nameBehind (now (line .entry)) start (now (first .entry)) ⌝ }
+{
     let n = named(line, word(line, start, first));
     Span {
         from: n.from,

@@ -14,10 +14,17 @@ use crate::mark::Mark;
 use crate::mark::end;
 use crate::mark::gap;
 use crate::mark::word;
+ghost use mathlib.Core.Path.{_≡_};
+ghost use Rattle.command.specs.Fresh.{makingOf};
+ghost use Rattle.command.specs.Look.{lookingOf};
+ghost use Rattle.command.specs.Help.{helpingOf};
+ghost use Rattle.command.specs.Table.{judged, formsOf, stationOf, forwardOf, backwardOf, viewsOf, infosOf, loadOf, compareOf, runToExceptionOf};
 
 const NO_END: u64 = 0xFFFF_FFFF_FFFF_FFFF;
 
-pub fn forms(line: &[u8], m: Mark) -> Reading {
+pub fn forms(line: &[u8], m: Mark) -> Reading
+    ensures { λ r. ⌜ r ≡ formsOf (now (line .entry)) m ⌝ }
+{
     let r = station(line, m);
     let r = better(r, forward(line, m));
     let r = better(r, backward(line, m));
@@ -26,7 +33,9 @@ pub fn forms(line: &[u8], m: Mark) -> Reading {
 }
 
 // What begins, fills, keeps and ends a station.
-fn station(line: &[u8], m: Mark) -> Reading {
+fn station(line: &[u8], m: Mark) -> Reading
+    ensures { λ r. ⌜ r ≡ stationOf (now (line .entry)) m ⌝ }
+{
     let r = new(line, m);
     let r = better(r, load(line, m));
     let r = better(r, compare(line, m));
@@ -36,7 +45,9 @@ fn station(line: &[u8], m: Mark) -> Reading {
     better(r, plain(line, m, b"abandon", Form::Abandon, 0))
 }
 
-fn forward(line: &[u8], m: Mark) -> Reading {
+fn forward(line: &[u8], m: Mark) -> Reading
+    ensures { λ r. ⌜ r ≡ forwardOf (now (line .entry)) m ⌝ }
+{
     let r = numbered(line, m, b"run", Form::Run);
     let r = better(
         r,
@@ -49,7 +60,9 @@ fn forward(line: &[u8], m: Mark) -> Reading {
     better(r, numbered(line, m, b"si", Form::Step))
 }
 
-fn backward(line: &[u8], m: Mark) -> Reading {
+fn backward(line: &[u8], m: Mark) -> Reading
+    ensures { λ r. ⌜ r ≡ backwardOf (now (line .entry)) m ⌝ }
+{
     let r = numbered(line, m, b"back", Form::Back);
     let r = better(r, plain(line, m, b"reverse-stepi", Form::Back, 1));
     let r = better(r, numbered(line, m, b"reverse-stepi", Form::Back));
@@ -59,7 +72,9 @@ fn backward(line: &[u8], m: Mark) -> Reading {
     better(r, numbered(line, m, b"before", Form::Before))
 }
 
-fn views(line: &[u8], m: Mark) -> Reading {
+fn views(line: &[u8], m: Mark) -> Reading
+    ensures { λ r. ⌜ r ≡ viewsOf (now (line .entry)) m ⌝ }
+{
     let r = infos(line, m);
     let r = better(r, plain(line, m, b"paper", Form::Papers, 0));
     let r = better(r, numbered(line, m, b"paper", Form::Paper));
@@ -67,7 +82,9 @@ fn views(line: &[u8], m: Mark) -> Reading {
     better(r, examine(line, m, b"xp", true, Form::Physical))
 }
 
-fn infos(line: &[u8], m: Mark) -> Reading {
+fn infos(line: &[u8], m: Mark) -> Reading
+    ensures { λ r. ⌜ r ≡ infosOf (now (line .entry)) m ⌝ }
+{
     let r = pair(line, m, b"info", b"registers", Form::Registers, 0);
     let r = better(r, pair(line, m, b"info", b"cp0", Form::Cp0, 0));
     let r = better(r, pair(line, m, b"info", b"tlb", Form::Tlb, 0));
@@ -77,7 +94,9 @@ fn infos(line: &[u8], m: Mark) -> Reading {
 }
 
 // ---- the forms of one command
-fn new(line: &[u8], m: Mark) -> Reading {
+fn new(line: &[u8], m: Mark) -> Reading
+    ensures { λ r. ⌜ r ≡ judged Form.New (makingOf (now (line .entry)) m .mark) ⌝ }
+{
     let made = making(line, m);
     let mark = made.mark;
     Reading {
@@ -87,7 +106,9 @@ fn new(line: &[u8], m: Mark) -> Reading {
     }
 }
 
-fn load(line: &[u8], m: Mark) -> Reading {
+fn load(line: &[u8], m: Mark) -> Reading
+    ensures { λ r. ⌜ r ≡ loadOf (now (line .entry)) m ⌝ }
+{
     let file = named(line, word(line, m, b"load"));
     let address = counted(line, file.mark);
     let mark = address.mark;
@@ -98,7 +119,9 @@ fn load(line: &[u8], m: Mark) -> Reading {
     }
 }
 
-fn compare(line: &[u8], m: Mark) -> Reading {
+fn compare(line: &[u8], m: Mark) -> Reading
+    ensures { λ r. ⌜ r ≡ compareOf (now (line .entry)) m ⌝ }
+{
     let folder = named(line, word(line, m, b"compare"));
     let mark = end(line, folder.mark);
     Reading {
@@ -108,7 +131,9 @@ fn compare(line: &[u8], m: Mark) -> Reading {
     }
 }
 
-fn run_to_exception(line: &[u8], m: Mark) -> Reading {
+fn run_to_exception(line: &[u8], m: Mark) -> Reading
+    ensures { λ r. ⌜ r ≡ runToExceptionOf (now (line .entry)) m ⌝ }
+{
     let n = counted(
         line,
         word(line, gap(line, word(line, m, b"run")), b"exception"),
@@ -121,7 +146,9 @@ fn run_to_exception(line: &[u8], m: Mark) -> Reading {
     }
 }
 
-fn examine(line: &[u8], m: Mark, name: &[u8], physical: bool, form: Form) -> Reading {
+fn examine(line: &[u8], m: Mark, name: &[u8], physical: bool, form: Form) -> Reading
+    ensures { λ r. ⌜ r ≡ judged form (lookingOf (now (line .entry)) m (now (name .entry)) physical .mark) ⌝ }
+{
     let seen = looking(line, m, name, physical);
     let mark = seen.mark;
     Reading {
@@ -131,7 +158,9 @@ fn examine(line: &[u8], m: Mark, name: &[u8], physical: bool, form: Form) -> Rea
     }
 }
 
-fn help(line: &[u8], m: Mark) -> Reading {
+fn help(line: &[u8], m: Mark) -> Reading
+    ensures { λ r. ⌜ r ≡ judged Form.Help (helpingOf (now (line .entry)) m .mark) ⌝ }
+{
     let asked = helping(line, m);
     let mark = asked.mark;
     Reading {
