@@ -4,3 +4,4 @@ pub mod Settings
 pub mod Shapes
 pub mod Lines
 pub mod Making
+pub mod Examples
