@@ -173,6 +173,8 @@ def fault_one(job):
     assert res[0] in (0, 77 if mode in ("before", "after") else 3), where
     assert res[2].count("\n") <= 1 + how.count("2"), where
     assert res[0] != 3 or res[2].count("\n") >= 1, where
+    if what == "create" and mode == "EIO" and res[0] == 3 and "cannot be closed" not in res[2]:
+        assert not os.path.lexists(s), where  # taken back, so that a second try begins anew
     if what == "create" and not os.path.lexists(s):
         assert res[0] != 0, where
         ok("create", s, old, shim="fast")
