@@ -7,13 +7,12 @@ use Rattle.cp0.specs.Privilege.{modeOf}
 use Rattle.cp0.specs.declared.privilege.Mode.{Mode}
 use Rattle.cp0.specs.declared.registers.Cp0.{Cp0}
 use Rattle.tlb.specs.declared.Row.{Row}
-use Rattle.reach.specs.Reach.{busAfter, physicalOf}
+use Rattle.reach.specs.Reach.{busAfter, physicalOf, reachOf}
 use Rattle.reach.specs.declared.Reached.{Reached}
 use Rattle.reach.specs.declared.access.Access.{Access}
 use Rattle.reach.specs.declared.access.Kind.{Kind}
 use Rattle.reach.specs.declared.access.Width.{Width}
 use Rattle.reach.specs.declared.translate.Translated.{Translated}
-use Rattle.reach.proofs.TwoParts.{in-parts}
 use Rattle.decide.specs.Access.{reachedOf}
 
 module _ (kind : Kind) (width : Width) (cp0 : Cp0) (t : List Row) (sizes : Sizes) (va : ℕ) where
@@ -22,6 +21,6 @@ module _ (kind : Kind) (width : Width) (cp0 : Cp0) (t : List Row) (sizes : Sizes
 
   pub reached-in-parts : {mode : Mode} {to : Translated} {answer : Reached} → mode ≡ modeOf (cp0 .status) → to ≡ physicalOf mode access va t (cp0 .«entry_hi») →
       answer ≡ busAfter access sizes to → answer ≡ reachedOf kind width cp0 t sizes va
-  unfolding reachedOf
+  unfolding reachedOf reachOf
   reached-in-parts told before after =
-      in-parts (modeOf (cp0 .status)) access sizes va t (cp0 .«entry_hi») (before ∙ ap (λ (m : Mode). physicalOf m access va t (cp0 .«entry_hi»)) told) after
+      after ∙ ap (busAfter access sizes) (before ∙ ap (λ (m : Mode). physicalOf m access va t (cp0 .«entry_hi»)) told)

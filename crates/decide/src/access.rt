@@ -1,6 +1,5 @@
 // Loads and stores: the virtual address, and where it lands. Each tries the plain access first, on its own, so that what is common goes straight through.
 ghost use mathlib.Core.Path.{_≡_};
-ghost use Rattle.tlb.specs.Words.{rowsIn};
 ghost use Rattle.decide.specs.Operand.{regOf};
 ghost use Rattle.decide.specs.Access.{loadWidth, storeWidth, reachedOf, loadOf, storeOf};
 use crate::intent::Intent;
@@ -18,6 +17,7 @@ use reach::access::Access;
 use reach::access::Kind;
 use reach::access::Width;
 use reach::plain::plain;
+use tlb::Row;
 
 fn load_width(op: LoadOp) -> Width
     ensures { λ r. ⌜ r ≡ loadWidth op ⌝ }
@@ -49,11 +49,11 @@ pub fn reached(
     kind: Kind,
     width: Width,
     cp0: Cp0,
-    rows: &[u32; 32],
+    rows: [Row; 16],
     sizes: Sizes,
     va: u32,
 ) -> Reached
-    ensures { λ r. ⌜ r ≡ reachedOf kind width cp0 (rowsIn (now (rows .entry))) sizes va ⌝ }
+    ensures { λ r. ⌜ r ≡ reachedOf kind width cp0 rows sizes va ⌝ }
 {
     let access = Access { kind, width };
     let to = reach::physical(mode_of(cp0.status), access, va, rows, cp0.entry_hi);
@@ -67,10 +67,10 @@ pub fn load(
     offset: u32,
     cp0: Cp0,
     regs: &[u32; 32],
-    rows: &[u32; 32],
+    rows: [Row; 16],
     sizes: Sizes,
 ) -> Intent
-    ensures { λ r. ⌜ r ≡ loadOf op rt (regOf (now (regs .entry)) base) offset cp0 (rowsIn (now (rows .entry))) sizes ⌝ }
+    ensures { λ r. ⌜ r ≡ loadOf op rt (regOf (now (regs .entry)) base) offset cp0 rows sizes ⌝ }
 {
     let va = addiu(reg(regs, base), offset);
     let width = load_width(op);
@@ -88,10 +88,10 @@ pub fn store(
     offset: u32,
     cp0: Cp0,
     regs: &[u32; 32],
-    rows: &[u32; 32],
+    rows: [Row; 16],
     sizes: Sizes,
 ) -> Intent
-    ensures { λ r. ⌜ r ≡ storeOf op (regOf (now (regs .entry)) rt) (regOf (now (regs .entry)) base) offset cp0 (rowsIn (now (rows .entry))) sizes ⌝ }
+    ensures { λ r. ⌜ r ≡ storeOf op (regOf (now (regs .entry)) rt) (regOf (now (regs .entry)) base) offset cp0 rows sizes ⌝ }
 {
     let va = addiu(reg(regs, base), offset);
     let width = store_width(op);

@@ -1,6 +1,5 @@
 // The words of COP0. Whether CP0 may be used is tested before anything else.
 ghost use mathlib.Core.Path.{_≡_};
-ghost use Rattle.tlb.specs.Words.{rowsIn};
 ghost use Rattle.decide.specs.Control.{writtenWord, entryOf, poppedWord, functionOf, controlOf};
 use crate::codes::CPU;
 use crate::codes::RI;
@@ -39,26 +38,23 @@ fn popped(cp0: Cp0) -> u32
     after.word
 }
 
-fn function(control: Control, cp0: Cp0, regs: &[u32; 32], rows: &[u32; 32], next: u32) -> Intent
-    ensures { λ r. ⌜ r ≡ functionOf cp0 (now (regs .entry)) (rowsIn (now (rows .entry))) next control ⌝ }
+fn function(control: Control, cp0: Cp0, regs: &[u32; 32], rows: [Row; 16], next: u32) -> Intent
+    ensures { λ r. ⌜ r ≡ functionOf cp0 (now (regs .entry)) rows next control ⌝ }
 {
     match control {
         Control::Undefined => Intent::Trap(RI, 0),
         Control::Mfc0(rt, r) => Intent::Write(rt, registers::read(cp0, r), next),
         Control::Mtc0(rt, r) => Intent::SetControl(r, written(cp0, r, reg(regs, rt))),
-        Control::Tlbr => Intent::SetEntry(tlb::read(tlb::rows_in(rows), tlb::index(cp0.index))),
+        Control::Tlbr => Intent::SetEntry(tlb::read(rows, tlb::index(cp0.index))),
         Control::Tlbwi => Intent::SetRow((tlb::index(cp0.index) % 16) as u32, entry(cp0)),
         Control::Tlbwr => Intent::SetRow((tlb::index(cp0.random) % 16) as u32, entry(cp0)),
-        Control::Tlbp => Intent::SetControl(
-            ControlRegister::Index,
-            tlb::probe(tlb::rows_in(rows), cp0.entry_hi),
-        ),
+        Control::Tlbp => Intent::SetControl(ControlRegister::Index, tlb::probe(rows, cp0.entry_hi)),
         Control::Rfe => Intent::SetControl(ControlRegister::Status, popped(cp0)),
     }
 }
 
-pub fn control(control: Control, cp0: Cp0, regs: &[u32; 32], rows: &[u32; 32], next: u32) -> Intent
-    ensures { λ r. ⌜ r ≡ controlOf cp0 (now (regs .entry)) (rowsIn (now (rows .entry))) next control ⌝ }
+pub fn control(control: Control, cp0: Cp0, regs: &[u32; 32], rows: [Row; 16], next: u32) -> Intent
+    ensures { λ r. ⌜ r ≡ controlOf cp0 (now (regs .entry)) rows next control ⌝ }
 {
     if usable(cp0.status) {
         return function(control, cp0, regs, rows, next);

@@ -1,6 +1,5 @@
 // The word at PC, or the exception that its fetch is.
 ghost use mathlib.Core.Path.{_≡_};
-ghost use Rattle.tlb.specs.Words.{rowsIn};
 ghost use Rattle.decide.specs.Lent.{lentOf, Whole};
 ghost use Rattle.decide.specs.Fetch.{fetchOf};
 use crate::lent::sizes;
@@ -13,6 +12,7 @@ use reach::access::Kind;
 use reach::access::Width;
 use reach::plain::plain;
 use state::machine::Core;
+use tlb::Row;
 
 pub enum Fetched {
     Word(u32),
@@ -21,13 +21,13 @@ pub enum Fetched {
 
 fn fetch_slow(
     core: Core,
-    rows: &[u32; 32],
+    rows: [Row; 16],
     execution: &[u8],
     bootstrap: &[u8],
     ram: &[u8],
 ) -> Fetched
     requires { ⌜ Whole (lentOf (now execution) (now bootstrap) (now ram)) ⌝ }
-    ensures { λ r. ⌜ r ≡ fetchOf core (rowsIn (now (rows .entry))) (lentOf (now (execution .entry)) (now (bootstrap .entry)) (now (ram .entry))) ⌝ }
+    ensures { λ r. ⌜ r ≡ fetchOf core rows (lentOf (now (execution .entry)) (now (bootstrap .entry)) (now (ram .entry))) ⌝ }
 {
     let lent = sizes(execution, bootstrap, ram);
     let access = Access {
@@ -44,15 +44,9 @@ fn fetch_slow(
 }
 
 // The plain access first: what is aligned and in RAM with VM off is read at once.
-pub fn fetch(
-    core: Core,
-    rows: &[u32; 32],
-    execution: &[u8],
-    bootstrap: &[u8],
-    ram: &[u8],
-) -> Fetched
+pub fn fetch(core: Core, rows: [Row; 16], execution: &[u8], bootstrap: &[u8], ram: &[u8]) -> Fetched
     requires { ⌜ Whole (lentOf (now execution) (now bootstrap) (now ram)) ⌝ }
-    ensures { λ r. ⌜ r ≡ fetchOf core (rowsIn (now (rows .entry))) (lentOf (now (execution .entry)) (now (bootstrap .entry)) (now (ram .entry))) ⌝ }
+    ensures { λ r. ⌜ r ≡ fetchOf core rows (lentOf (now (execution .entry)) (now (bootstrap .entry)) (now (ram .entry))) ⌝ }
 {
     if plain(core.cp0.status, Width::Four, ram.len() as u32, core.pc) {
         return Fetched::Word(memory::load_word(ram, (core.pc - RAM) as usize));

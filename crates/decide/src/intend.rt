@@ -1,6 +1,5 @@
 // What an instruction asks for: sources are read first, so every answer is made of what they held before it.
 ghost use mathlib.Core.Path.{_≡_};
-ghost use Rattle.tlb.specs.Words.{rowsIn};
 ghost use Rattle.decide.specs.Intend.{intendOf};
 use crate::access::load;
 use crate::access::store;
@@ -19,9 +18,10 @@ use alu::logic::lui;
 use board::places::Sizes;
 use isa::instr::Instr;
 use state::machine::Core;
+use tlb::Row;
 
-pub fn intend(instr: Instr, core: Core, regs: &[u32; 32], rows: &[u32; 32], sizes: Sizes) -> Intent
-    ensures { λ r. ⌜ r ≡ intendOf core (now (regs .entry)) (rowsIn (now (rows .entry))) sizes instr ⌝ }
+pub fn intend(instr: Instr, core: Core, regs: &[u32; 32], rows: [Row; 16], sizes: Sizes) -> Intent
+    ensures { λ r. ⌜ r ≡ intendOf core (now (regs .entry)) rows sizes instr ⌝ }
 {
     let next = after(core.next_pc);
     let cp0 = core.cp0;

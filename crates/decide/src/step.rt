@@ -1,6 +1,5 @@
 // Document 01, "One step", parts 3 and 4: interrupt entry, or fetch and execute.
 ghost use mathlib.Core.Path.{_≡_};
-ghost use Rattle.tlb.specs.Words.{rowsIn};
 ghost use Rattle.decide.specs.Lent.{lentOf, Whole};
 ghost use Rattle.decide.specs.Decide.{executeOf, decideOf};
 use crate::codes::INT;
@@ -15,18 +14,19 @@ use crate::settle::trapped;
 use cp0::interrupt::interrupts;
 use isa::decode::decode;
 use state::machine::Core;
+use tlb::Row;
 
 fn execute(
     word: u32,
     core: Core,
     regs: &[u32; 32],
-    rows: &[u32; 32],
+    rows: [Row; 16],
     execution: &[u8],
     bootstrap: &[u8],
     ram: &[u8],
 ) -> Decision
     requires { ⌜ Whole (lentOf (now execution) (now bootstrap) (now ram)) ⌝ }
-    ensures { λ r. ⌜ r ≡ executeOf core (now (regs .entry)) (rowsIn (now (rows .entry))) (lentOf (now (execution .entry)) (now (bootstrap .entry)) (now (ram .entry))) word ⌝ }
+    ensures { λ r. ⌜ r ≡ executeOf core (now (regs .entry)) rows (lentOf (now (execution .entry)) (now (bootstrap .entry)) (now (ram .entry))) word ⌝ }
 {
     let intent = intend(
         decode(word),
@@ -38,17 +38,17 @@ fn execute(
     settle(intent, core, regs, execution, bootstrap, ram)
 }
 
-// `core` is as the tick left it; `rows` are the words of the translation table.
+// `core` is as the tick left it; `rows` are the translation table.
 pub fn decide(
     core: Core,
     regs: &[u32; 32],
-    rows: &[u32; 32],
+    rows: [Row; 16],
     execution: &[u8],
     bootstrap: &[u8],
     ram: &[u8],
 ) -> Decision
     requires { ⌜ Whole (lentOf (now execution) (now bootstrap) (now ram)) ⌝ }
-    ensures { λ r. ⌜ r ≡ decideOf core (now (regs .entry)) (rowsIn (now (rows .entry))) (lentOf (now (execution .entry)) (now (bootstrap .entry)) (now (ram .entry))) ⌝ }
+    ensures { λ r. ⌜ r ≡ decideOf core (now (regs .entry)) rows (lentOf (now (execution .entry)) (now (bootstrap .entry)) (now (ram .entry))) ⌝ }
 {
     if interrupts(core.cp0.status, core.cp0.cause) {
         return trapped(core, INT, 0);

@@ -22,7 +22,7 @@ use Rattle.reach.specs.Access.{isStore, isFetch}
 use Rattle.reach.specs.Check.{addressError, alignedOf, allowedOf}
 use Rattle.reach.specs.Translate.{tlbError, soughtOf, isValid, isLocked, byRow, byFound, isVirtual, translatedOf}
 use Rattle.reach.specs.Bus.{busError, permits, landsOf}
-use Rattle.reach.specs.Reach.{busAfter, reachOf}
+use Rattle.reach.specs.Reach.{physicalOf, busAfter, reachOf}
 use Rattle.reach.specs.declared.access.Access.{Access}
 use Rattle.reach.specs.declared.access.Kind.{Kind}
 use Rattle.reach.specs.declared.access.Width.{Width}
@@ -75,9 +75,8 @@ after-coded access sizes (Raises code miss) h = h
 reach-coded : (mode : Mode) (access : Access) (sizes : Sizes) (a : ℕ) (t : List Row) (entry : ℕ) → Coded (reachOf mode access sizes a t entry)
 unfolding reachOf
 reach-coded mode access sizes a t entry =
-    picked Coded (alignedOf (access .width) a && allowedOf mode a) _ _
-    (λ _. after-coded access sizes (translatedOf mode (access .kind) a t entry) (translated-coded (access .kind) mode a t entry))
-    (λ _. address-coded (access .kind))
+    after-coded access sizes (physicalOf mode access a t entry)
+    (picked CodedAfter (alignedOf (access .width) a && allowedOf mode a) _ _ (λ _. translated-coded (access .kind) mode a t entry) (λ _. address-coded (access .kind)))
 
 pub reached-coded : (kind : Kind) (width : Width) (cp0 : Cp0) (t : List Row) (sizes : Sizes) (va : ℕ) → Coded (reachedOf kind width cp0 t sizes va)
 unfolding reachedOf

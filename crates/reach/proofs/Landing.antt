@@ -81,7 +81,7 @@ module _ (mode : Mode) (access : Access) (sizes : Sizes) (a : ℕ) (t : List Row
   reached-by : LandsBy access sizes a (reachOf mode access sizes a t entry)
   unfolding reachOf
   reached-by =
-      picked (LandsBy access sizes a) (alignedOf (access .width) a && allowedOf mode a) _ _
+      picked (λ (to : Translated). LandsBy access sizes a (busAfter access sizes to)) (alignedOf (access .width) a && allowedOf mode a) _ _
       (λ h. after access sizes a (both (alignedOf (access .width) a) (allowedOf mode a) h .0) (translatedOf mode (access .kind) a t entry)
       (translated-keeps mode (access .kind) a t entry))
       (λ _. tt)

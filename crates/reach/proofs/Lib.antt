@@ -1,4 +1,3 @@
 pub mod Landing
 pub mod Laws
 pub mod PlainLands
-pub mod TwoParts

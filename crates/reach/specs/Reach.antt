@@ -16,18 +16,15 @@ use Rattle.reach.specs.declared.translate.Translated.the-variants.{To, R
 use Rattle.reach.specs.declared.Reached.{Reached}
 use Rattle.reach.specs.declared.Reached.the-variants.{Exception}
 
-abbrev pub busAfter : Access → Sizes → Translated → Reached
-busAfter access sizes (To p) = landsOf (access .kind) (access .width) (mappedOf sizes p)
-busAfter access sizes (Raises code miss) = Exception miss code
-
--- what comes before the bus; t is the table, entry the EntryHi register
+-- what comes before the bus: alignment, privilege, translation; t is the table, entry the EntryHi register
 abbrev pub physicalOf : Mode → Access → ℕ → List Row → ℕ → Translated
 physicalOf mode access a t entry =
     cond (alignedOf (access .width) a && allowedOf mode a) (translatedOf mode (access .kind) a t entry) (Raises (addressError (access .kind)) false)
 
--- the whole answer (proofs/TwoParts.antt: it is the bus after what comes before it)
+-- then the bus
+abbrev pub busAfter : Access → Sizes → Translated → Reached
+busAfter access sizes (To p) = landsOf (access .kind) (access .width) (mappedOf sizes p)
+busAfter access sizes (Raises code miss) = Exception miss code
+
 unfoldable pub reachOf : Mode → Access → Sizes → ℕ → List Row → ℕ → Reached
-reachOf mode access sizes a t entry =
-    cond (alignedOf (access .width) a && allowedOf mode a)
-    (busAfter access sizes (translatedOf mode (access .kind) a t entry))
-    (Exception false (addressError (access .kind)))
+reachOf mode access sizes a t entry = busAfter access sizes (physicalOf mode access a t entry)

@@ -1,11 +1,11 @@
 // Document 01, "Addresses": where an access lands, or which exception it is.
 ghost use mathlib.Core.Path.{_≡_};
-ghost use Rattle.tlb.specs.Words.{rowsIn};
 ghost use Rattle.reach.specs.Reach.{busAfter, physicalOf};
 use access::Access;
 use board::places::Place;
 use board::places::Sizes;
 use cp0::privilege::Mode;
+use tlb::Row;
 use translate::Translated;
 
 pub mod access; // what an instruction asks of an address
@@ -21,9 +21,9 @@ pub enum Reached {
     Exception { miss: bool, code: u32 },
 }
 
-// Alignment and privilege, then the table. `words` are the table's and `entry` is the EntryHi register.
-pub fn physical(mode: Mode, access: Access, a: u32, words: &[u32; 32], entry: u32) -> Translated
-    ensures { λ r. ⌜ r ≡ physicalOf mode access a (rowsIn (now (words .entry))) entry ⌝ }
+// Alignment and privilege, then the table. `entry` is the EntryHi register.
+pub fn physical(mode: Mode, access: Access, a: u32, rows: [Row; 16], entry: u32) -> Translated
+    ensures { λ r. ⌜ r ≡ physicalOf mode access a rows entry ⌝ }
 {
     let kind = access.kind;
     let width = access.width;
@@ -31,7 +31,7 @@ pub fn physical(mode: Mode, access: Access, a: u32, words: &[u32; 32], entry: u3
         let code = check::address_error(kind);
         return Translated::Raises { code, miss: false };
     }
-    translate::translate(mode, kind, a, words, entry)
+    translate::translate(mode, kind, a, rows, entry)
 }
 
 // Then the bus. Apart from `physical`, which is long and stays a call of its own: a place handed back by a call is stored as a tag and a number, and the caller would wait

@@ -2,7 +2,6 @@
 ghost use mathlib.Core.Path.{_≡_};
 ghost use Rattle.reach.specs.Translate.{tlbError, soughtOf, isLocked, byRow, byFound, isVirtual, translatedOf};
 ghost use Rattle.tlb.specs.Search.{foundIn};
-ghost use Rattle.tlb.specs.Words.{rowsIn};
 use crate::access::Kind;
 use crate::access::is_store;
 use crate::codes::MOD;
@@ -63,12 +62,12 @@ fn by_row(kind: Kind, a: u32, row: Row) -> Translated
     Translated::To(row.low / 4096 * 4096 + a % 4096)
 }
 
-fn searched(kind: Kind, a: u32, words: &[u32; 32], entry: u32) -> Translated
-    ensures { λ r. ⌜ r ≡ byFound kind a (rowsIn (now (words .entry))) (foundIn (soughtOf a entry) (rowsIn (now (words .entry)))) ⌝ }
+fn searched(kind: Kind, a: u32, rows: [Row; 16], entry: u32) -> Translated
+    ensures { λ r. ⌜ r ≡ byFound kind a rows (foundIn (soughtOf a entry) rows) ⌝ }
 {
-    match tlb::search_in(words, sought(a, entry)) {
+    match tlb::search(rows, sought(a, entry)) {
         Found::At(i) => {
-            let row = tlb::row_in(words, i);
+            let row = tlb::read(rows, i);
             by_row(kind, a, row)
         }
         Found::Nothing => Translated::Raises {
@@ -87,11 +86,11 @@ fn is_virtual(mode: Mode, a: u32) -> bool
     false
 }
 
-pub fn translate(mode: Mode, kind: Kind, a: u32, words: &[u32; 32], entry: u32) -> Translated
-    ensures { λ r. ⌜ r ≡ translatedOf mode kind a (rowsIn (now (words .entry))) entry ⌝ }
+pub fn translate(mode: Mode, kind: Kind, a: u32, rows: [Row; 16], entry: u32) -> Translated
+    ensures { λ r. ⌜ r ≡ translatedOf mode kind a rows entry ⌝ }
 {
     if is_virtual(mode, a) {
-        return searched(kind, a, words, entry);
+        return searched(kind, a, rows, entry);
     }
     Translated::To(a)
 }

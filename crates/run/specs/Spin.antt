@@ -1,7 +1,6 @@
 -- The loop: the parts that it holds of a machine, and what it leaves of them.
 use Prim.Native.Nat.{ℕ, _≤_}
 use mathlib.Core.Bool.{Bool}
-use mathlib.Core.List.{List}
 use mathlib.Core.Path.{_≡_}
 use lib.ListN.{length}
 use Rattle.word.specs.Lists.{flat}
@@ -10,17 +9,16 @@ use Rattle.ring.specs.Run as ring
 use Rattle.journal.specs.Journal.{slotsOf, ringOf}
 use Rattle.journal.specs.Journal as slots
 use Rattle.printer.specs.Tick.{anyBusy}
-use Rattle.tlb.specs.Words.{rowsIn}
-use Rattle.state.specs.Layout.{coreWords, rowWords, printerWords}
+use Rattle.state.specs.Layout.{coreWords, printerWords}
 use Rattle.state.specs.declared.machine.Machine.{Machine}
 use Rattle.state.specs.declared.machine.Settings.{Settings}
-use Rattle.decide.specs.Lent.{Whole, lentOf}
+use Rattle.decide.specs.Lent.{Whole}
 use Rattle.held.specs.Board.{boardOf, Told}
 use Rattle.held.specs.Core.{coreIn}
-use Rattle.step.specs.World.{Roms, romsOf}
-use Rattle.turn.specs.Turn.{worldHeld}
+use Rattle.step.specs.World.{Roms}
+use Rattle.turn.specs.Turn.{Buffers, romsIn, lentFrom, worldHeld}
+use Rattle.turn.specs.declared.Parts.{Parts}
 use Rattle.run.specs.Run.{forward, reasonOf}
-use Rattle.run.specs.declared.Parts.{Parts}
 use Rattle.run.specs.declared.Spun.{Spun}
 
 abbrev pub partsOf : Machine → Parts
@@ -29,7 +27,7 @@ partsOf m =
       core = coreWords (m .cpu .core);
       held = record { clock = m .board .clock; pending = m .board .line .pending; busy = anyBusy (m .board .line .printers) };
       regs = m .cpu .regs;
-      rows = flat rowWords (m .cpu .tlb);
+      rows = m .cpu .tlb;
       words = flat printerWords (m .board .line .printers);
       mark = m .journal;
     }
@@ -37,28 +35,25 @@ partsOf m =
 abbrev pub machineOf : Parts → Settings → Machine
 machineOf p settings =
     record {
-      cpu = record { regs = p .regs; core = coreIn (p .core); tlb = rowsIn (p .rows) };
+      cpu = record { regs = p .regs; core = coreIn (p .core); tlb = p .rows };
       board = boardOf (p .held) settings (p .words);
       journal = p .mark;
     }
 
-abbrev pub configOf : (roms : Roms) → Parts → Settings → List ℕ → List ℕ → List ℕ → Config (forward roms)
-configOf roms p settings ram paper journal =
-    record {
-      state = worldHeld (p .core) (p .held) settings (p .words) (p .rows) (p .regs) ram paper;
-      ring = ringOf (p .mark) journal;
-    }
+abbrev pub configOf : (roms : Roms) → Settings → Parts → Buffers → Config (forward roms)
+configOf roms settings p b = record { state = worldHeld p settings b; ring = ringOf (p .mark) (b .journal) }
 
-pub record Ready (p : Parts) (execution bootstrap ram paper journal : List ℕ) : Type 0 where
+pub record Ready (p : Parts) (b : Buffers) : Type 0 where
   pub twelve : length (p .core) ≡ 12
-  pub table : length (p .rows) ≡ 32
+  pub table : length (p .rows) ≡ 16
   pub told : Told (p .held) (p .words)
-  pub whole : Whole (lentOf execution bootstrap ram)
-  pub short : length paper ≤ 65536
-  pub ready : slots.Ready journal (p .mark)
+  pub whole : Whole (lentFrom b)
+  pub short : length (b .paper) ≤ 65536
+  pub ready : slots.Ready (b .journal) (p .mark)
 
-abbrev pub SpinIs : (execution bootstrap : List ℕ) → ℕ → Bool → Parts → Settings → (ram paper journal : List ℕ) → Spun → (ram′ paper′ journal′ : List ℕ) → Type 0
-SpinIs execution bootstrap budget stop p settings ram paper journal r ram′ paper′ journal′ =
-    let roms = romsOf execution bootstrap in
-    ended (configOf roms (r .parts) settings ram′ paper′ journal′) (r .steps) (reasonOf (r .why))
-    ≡ ring.run (forward roms) (slotsOf journal) budget stop (configOf roms p settings ram paper journal)
+-- b′ are the buffers that the loop leaves
+abbrev pub SpinIs : ℕ → Bool → Settings → Parts → Buffers → Spun → (b′ : Buffers) → Type 0
+SpinIs budget stop settings p b r b′ =
+    let roms = romsIn b in
+    ended (configOf roms settings (r .parts) b′) (r .steps) (reasonOf (r .why))
+    ≡ ring.run (forward roms) (slotsOf (b .journal)) budget stop (configOf roms settings p b)

@@ -1,11 +1,11 @@
-// The run loop. It holds the machine's parts as locals, so that no step copies them all: the registers, and as words the core, the printers and the translation table,
-// are lent to each step and changed where they stand.
+// The run loop. It holds the machine's parts as locals, so that no step copies them all: the registers, and as words the core and the printers, are lent to each step
+// and changed where they stand; the translation table is passed by value to what asks it, and handed back whole where a row is written.
 ghost use mathlib.Core.Path.{_≡_};
-ghost use Prim.Native.Nat.{_+_, _*_, _<_};
-ghost use lib.ListN.{set};
+ghost use Rattle.turn.specs.Turn.{buffersOf};
 ghost use Rattle.run.specs.Run.{Fits, RunIs};
 ghost use Rattle.run.specs.Spin.{partsOf, machineOf, Ready, SpinIs};
 use decide::effect::Effect;
+use decide::step::decide;
 use held::Held;
 use held::core::core_in;
 use held::packed;
@@ -13,15 +13,14 @@ use held::unpacked;
 use printer::Line;
 use printer::tick::any_busy;
 use state::encode::core_words;
-use state::encode::row_words;
 use state::machine::Board;
 use state::machine::Cpu;
-use state::machine::Journal;
 use state::machine::Machine;
 use state::machine::Settings;
-use tlb::Row;
-use tlb::rows_in;
-use turn::turn;
+use step::saved::old_row;
+use turn::Parts;
+use turn::finish;
+use turn::start;
 
 // Why a run ended.
 pub enum Stop {
@@ -33,16 +32,6 @@ pub struct Outcome {
     pub machine: Machine,
     pub steps: u32,
     pub why: Stop,
-}
-
-// The parts that the loop holds as locals.
-pub struct Parts {
-    pub core: [u32; 12],
-    pub held: Held,
-    pub regs: [u32; 32],
-    pub rows: [u32; 32],
-    pub words: [u32; 40],
-    pub mark: Journal,
 }
 
 pub struct Spun {
@@ -57,8 +46,7 @@ fn opened(machine: Machine) -> Parts
     let cpu = machine.cpu;
     let core = core_words(cpu.core);
     let regs = cpu.regs;
-    let table = cpu.tlb;
-    let rows = row_words(table);
+    let rows = cpu.tlb;
     let board = machine.board;
     let clock = board.clock;
     let line = board.line;
@@ -94,8 +82,7 @@ fn closed(parts: Parts, settings: Settings) -> Machine
     let regs = parts.regs;
     let twelve = parts.core;
     let core = core_in(&twelve);
-    let rows = parts.rows;
-    let tlb = rows_in(&rows);
+    let tlb = parts.rows;
     let journal = parts.mark;
     Machine {
         cpu: Cpu { regs, core, tlb },
@@ -106,15 +93,6 @@ fn closed(parts: Parts, settings: Settings) -> Machine
         },
         journal,
     }
-}
-
-fn put_row(rows: &mut [u32; 32], i: u32, row: Row)
-    requires { ⌜ i < 16 ⌝ }
-    ensures { λ _. ⌜ now (rows .exit) ≡ set (set (now (rows .entry)) (2 * i) (row .high)) (2 * i + 1) (row .low) ⌝ }
-{
-    let at = 2 * (i as usize);
-    rows[at] = row.high;
-    rows[at + 1] = row.low;
 }
 
 fn spin(
@@ -128,10 +106,12 @@ fn spin(
     budget: u32,
     stop: bool,
 ) -> Spun
-    requires { ⌜ Ready parts (now execution) (now bootstrap) (now ram) (now paper) (now journal) ⌝ }
+    requires { ⌜ Ready parts (buffersOf (now execution) (now bootstrap) (now ram) (now paper) (now journal)) ⌝ }
     ensures { λ r. ⌜
-        SpinIs (now (execution .entry)) (now (bootstrap .entry)) budget stop parts settings (now (ram .entry)) (now (paper .entry))
-        (now (journal .entry)) r (now (ram .exit)) (now (paper .exit)) (now (journal .exit))
+        SpinIs budget stop settings parts
+        (buffersOf (now (execution .entry)) (now (bootstrap .entry)) (now (ram .entry)) (now (paper .entry)) (now (journal .entry)))
+        r
+        (buffersOf (now (execution .entry)) (now (bootstrap .entry)) (now (ram .exit)) (now (paper .exit)) (now (journal .exit)))
         ⌝ }
 {
     let mut core = parts.core;
@@ -145,31 +125,38 @@ fn spin(
         if steps == budget {
             break Stop::Budget;
         }
-        let turned = turn(
+        let after = start(&mut core, held, settings, &mut words, paper, journal, mark);
+        let now = core_in(&core);
+        let d = decide(now, &regs, rows, execution, bootstrap, ram);
+        let effect = d.effect;
+        let old = old_row(effect, rows);
+        let turned = finish(
             &mut core,
-            held,
+            after,
             settings,
             &mut words,
-            &rows,
+            d,
+            old,
             &mut regs,
             execution,
             bootstrap,
             ram,
-            paper,
             journal,
             mark,
         );
         held = turned.held;
         mark = turned.mark;
         steps = steps + 1;
-        let effect = turned.effect;
         match effect {
             Effect::Raise(_) => {
                 if stop {
                     break Stop::Exception;
                 }
             }
-            Effect::TlbRow(i, row) => put_row(&mut rows, i, row),
+            Effect::TlbRow(i, row) => {
+                let written = tlb::write(rows, i as usize, row);
+                rows = written;
+            }
             Effect::Nothing => {}
             Effect::Register(_, _) => {}
             Effect::HiLo(_, _) => {}

@@ -1,7 +1,7 @@
 -- The effect by parts, for functions that hold only some of them: proofs/Effects.antt shows that together they are `effectOf`.
 use Prim.Native.Nat.{ℕ}
 use mathlib.Core.List.{List}
-use lib.ListN.{set}
+use lib.ListN.{getD, set}
 use Rattle.bus.specs.Store.{busWriteOf}
 use Rattle.bus.specs.Stored.{causeStored}
 use Rattle.bus.specs.Words.{busWordOf}
@@ -9,9 +9,12 @@ use Rattle.bus.specs.declared.read.Bus.{Bus}
 use Rattle.cp0.specs.Entry.{enteredOf}
 use Rattle.cp0.specs.Registers.{withRegister, withEntry}
 use Rattle.isa.specs.declared.instr.ControlRegister.the-variants.{Cause}
-use Rattle.memory.specs.Memory.{storedAt}
+use Rattle.memory.specs.Memory.{loadAt, storedAt}
 use Rattle.printer.specs.declared.Printer.{Printer}
+use Rattle.tlb.specs.Entry.{noRow, readAt}
 use Rattle.tlb.specs.declared.Row.{Row}
+use Rattle.record.specs.declared.Saved.{Saved}
+use Rattle.record.specs.declared.Saved.the-variants as saved
 use Rattle.state.specs.declared.machine.Core.{Core}
 use Rattle.state.specs.declared.machine.Board.{Board}
 use Rattle.decide.specs.declared.effect.Effect.{Effect}
@@ -67,6 +70,32 @@ rowsAfter (Ram at word) t = t
 rowsAfter (DeviceLoad d offset) t = t
 rowsAfter (DeviceStore offset word) t = t
 rowsAfter (Raise e) t = t
+
+-- the row that the effect overwrites, which is the caller's to read: no function but the loop has the table
+abbrev pub oldRow : Effect → List Row → Row
+oldRow Nothing t = noRow
+oldRow (Register d word) t = noRow
+oldRow (HiLo hi lo) t = noRow
+oldRow (Control r word) t = noRow
+oldRow (Entry row) t = noRow
+oldRow (TlbRow i row) t = readAt t i
+oldRow (Ram at word) t = noRow
+oldRow (DeviceLoad d offset) t = noRow
+oldRow (DeviceStore offset word) t = noRow
+oldRow (Raise e) t = noRow
+
+-- what a record keeps of the effect, given that row
+abbrev pub savedWith : Effect → List ℕ → Row → List ℕ → Saved
+savedWith Nothing regs old ram = saved.Nothing
+savedWith (Register d word) regs old ram = saved.Register d (getD regs d 0)
+savedWith (HiLo hi lo) regs old ram = saved.Nothing
+savedWith (Control r word) regs old ram = saved.Nothing
+savedWith (Entry row) regs old ram = saved.Nothing
+savedWith (TlbRow i row) regs old ram = saved.TlbRow i old
+savedWith (Ram at word) regs old ram = saved.RamWord at (loadAt 4 ram at)
+savedWith (DeviceLoad d offset) regs old ram = saved.Register d (getD regs d 0)
+savedWith (DeviceStore offset word) regs old ram = saved.Nothing
+savedWith (Raise e) regs old ram = saved.Nothing
 
 abbrev pub boardAfter : Effect → Board → Board
 boardAfter Nothing b = b

@@ -2,22 +2,31 @@
 ghost use mathlib.Core.Path.{_≡_};
 ghost use Prim.Native.Nat.{_<_};
 ghost use lib.ListN.{length, getD};
-ghost use Rattle.tlb.specs.Entry.{noRow};
-ghost use Rattle.tlb.specs.Words.{rowsIn};
 ghost use Rattle.decide.specs.Range.{Within};
-ghost use Rattle.step.specs.Note.{savedOf};
+ghost use Rattle.step.specs.Parts.{oldRow, savedWith};
 use decide::effect::Effect;
 use record::Saved;
 use tlb::Row;
-use tlb::row_in;
 
-// Functions of their own, so that a row or a register is read only in the arm that needs it.
-fn row_at(rows: &[u32; 32], i: u32) -> Row
-    requires { ⌜ i < 16 ⌝ }
-    ensures { λ r. ⌜ r ≡ getD (rowsIn (now (rows .entry))) i noRow ⌝ }
+// The row that the effect overwrites. Only TLBWI's and TLBWR's does, so that the table is copied for no other.
+pub fn old_row(effect: Effect, rows: [Row; 16]) -> Row
+    ensures { λ r. ⌜ r ≡ oldRow effect rows ⌝ }
 {
-    row_in(rows, i as usize)
+    match effect {
+        Effect::TlbRow(i, _) => tlb::read(rows, i as usize),
+        Effect::Nothing => Row { high: 0, low: 0 },
+        Effect::Register(_, _) => Row { high: 0, low: 0 },
+        Effect::HiLo(_, _) => Row { high: 0, low: 0 },
+        Effect::Control(_, _) => Row { high: 0, low: 0 },
+        Effect::Entry(_) => Row { high: 0, low: 0 },
+        Effect::Ram(_, _) => Row { high: 0, low: 0 },
+        Effect::DeviceLoad(_, _) => Row { high: 0, low: 0 },
+        Effect::DeviceStore(_, _) => Row { high: 0, low: 0 },
+        Effect::Raise(_) => Row { high: 0, low: 0 },
+    }
 }
+
+// A function of its own, so that a register is read only in the arm that needs it.
 
 fn register_at(regs: &[u32; 32], d: u32) -> u32
     requires { ⌜ d < 32 ⌝ }
@@ -27,14 +36,14 @@ fn register_at(regs: &[u32; 32], d: u32) -> u32
     regs[at]
 }
 
-pub fn saved(effect: Effect, regs: &[u32; 32], rows: &[u32; 32], ram: &[u8]) -> Saved
+pub fn saved(effect: Effect, regs: &[u32; 32], old: Row, ram: &[u8]) -> Saved
     requires { ⌜ Within (length (now ram)) 16 effect ⌝ }
-    ensures { λ r. ⌜ r ≡ savedOf effect (now (regs .entry)) (rowsIn (now (rows .entry))) (now (ram .entry)) ⌝ }
+    ensures { λ r. ⌜ r ≡ savedWith effect (now (regs .entry)) old (now (ram .entry)) ⌝ }
 {
     match effect {
         Effect::Register(d, _) => Saved::Register(d, register_at(regs, d)),
         Effect::DeviceLoad(d, _) => Saved::Register(d, register_at(regs, d)),
-        Effect::TlbRow(i, _) => Saved::TlbRow(i, row_at(rows, i)),
+        Effect::TlbRow(i, _) => Saved::TlbRow(i, old),
         Effect::Ram(at, _) => Saved::RamWord(at, memory::load_word(ram, at as usize)),
         Effect::Nothing => Saved::Nothing,
         Effect::HiLo(_, _) => Saved::Nothing,

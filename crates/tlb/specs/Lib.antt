@@ -1,4 +1,3 @@
 pub mod Entry
 pub mod Search
 pub mod Index
-pub mod Words

@@ -1,10 +1,8 @@
-// The translation table: sixteen rows of two words, passed and handed back whole; and as a run holds it, thirty-two words behind a reference.
+// The translation table: sixteen rows of two words, passed and handed back whole.
 ghost use mathlib.Core.Path.{_≡_};
-ghost use Prim.Native.Nat.{_<_};
 ghost use Rattle.tlb.specs.Entry.{matchesOf, readAt, writtenAt};
 ghost use Rattle.tlb.specs.Search.{foundIn};
 ghost use Rattle.tlb.specs.Index.{indexOf, probedOf};
-ghost use Rattle.tlb.specs.Words.{rowIn, rowsIn};
 
 pub struct Row {
     pub high: u32,
@@ -81,44 +79,4 @@ pub fn probe(t: [Row; 16], sought: u32) -> u32
     ensures { λ r. ⌜ r ≡ probedOf (foundIn sought t) ⌝ }
 {
     probed(search(t, sought))
-}
-
-// Row i of the table where it stands.
-pub fn row_in(words: &[u32; 32], i: usize) -> Row
-    requires { ⌜ i < 16 ⌝ }
-    ensures { λ r. ⌜ r ≡ rowIn (now (words .entry)) i ⌝ }
-{
-    Row {
-        high: words[2 * i],
-        low: words[2 * i + 1],
-    }
-}
-
-// The whole table, for what is rare: TLBR and TLBP.
-pub fn rows_in(words: &[u32; 32]) -> [Row; 16]
-    ensures { λ r. ⌜ r ≡ rowsIn (now (words .entry)) ⌝ }
-{
-    let none = Row { high: 0, low: 0 };
-    let mut rows = [none; 16];
-    for i in 0..16 {
-        rows[i] = row_in(words, i);
-    }
-    rows
-}
-
-// `search` over the table where it stands: no row is copied that is not compared.
-pub fn search_in(words: &[u32; 32], sought: u32) -> Found
-    ensures { λ r. ⌜ r ≡ foundIn sought (rowsIn (now (words .entry))) ⌝ }
-{
-    let mut i: usize = 0;
-    loop {
-        if 16 <= i {
-            break Found::Nothing;
-        }
-        let row = row_in(words, i);
-        if matches(row, sought) {
-            break Found::At(i);
-        }
-        i += 1;
-    }
 }

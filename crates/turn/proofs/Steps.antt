@@ -1,6 +1,6 @@
 -- Tick, decide, note, apply: that is a step. Over plain values, so that the walk of the code hands its facts over by name.
 use Prim.Native.Nat.{ℕ, _<_}
-use mathlib.Core.Path.{_≡_, sym, ap, _∙_}
+use mathlib.Core.Path.{_≡_, refl, sym, ap, _∙_}
 use mathlib.Core.Bool.{true}
 use mathlib.Core.List.{List, []}
 use native.Mathlib.Omega.{arith}
@@ -24,16 +24,26 @@ use Rattle.decide.specs.declared.effect.Decision.{Decision}
 use Rattle.step.specs.World.{World, Roms, worldOf, romsOf, lentIn}
 use Rattle.step.specs.Tick.{tickOf}
 use Rattle.step.specs.Apply.{appliedOf}
-use Rattle.step.specs.Parts.{rowsAfter}
+use Rattle.step.specs.Parts.{rowsAfter, oldRow, savedWith}
+use Rattle.step.specs.Held.{TickIs, ApplyIs}
 use Rattle.step.specs.Step.{decisionIn, effectIn, stepOf}
 use Rattle.step.specs.Note.{savedOf, noteOf}
 use Rattle.step.proofs.Ticks.{tick-parts}
 use Rattle.step.proofs.Applied.{apply-parts}
+use Rattle.step.proofs.Effects.{saved-row}
 use Rattle.ring.specs.Slots.{Ring, written}
 use Rattle.record.specs.Layout.{recordBytes}
-use Rattle.journal.specs.Journal.{slotsOf, ringOf, Ready, begunOf, endedOf, withSaved}
+use Rattle.journal.specs.Journal.{slotsOf, ringOf, Ready, heldRecord, begunOf, endedOf, withSaved}
 use Rattle.journal.proofs.TwoParts.{begun-ended, begun-ready}
 use Rattle.state.specs.declared.machine.Journal.{Journal}
+use Rattle.state.specs.declared.machine.Settings.{Settings}
+use Rattle.held.specs.Board.{printersIn, boardOf}
+use Rattle.held.specs.Core.{coreIn}
+use Rattle.held.specs.declared.Held.{Held}
+use Rattle.held.proofs.Board.{length-printers}
+use Rattle.turn.specs.Turn.{Buffers, buffersOf, lentFrom, TurnIs}
+use Rattle.turn.specs.declared.Parts.{Parts}
+use Rattle.turn.specs.declared.Turned.{Turned}
 
 module _ (execution bootstrap : List ℕ) (core : Core) (board : Board) (t : List Row) (regs ram paper : List ℕ)
     {core₁ : Core} {board₁ : Board} {paper₁ : List ℕ} {d : Decision}
@@ -99,6 +109,46 @@ ring-is mark journal ready r old eight first last noted =
 
 pub still-ready : {mark : Journal} {journal : List ℕ} (r : Record) {begun : List ℕ} → Ready journal mark → length (r .printers) ≡ 8 → begun ≡ begunOf mark r journal → Ready begun mark
 still-ready {mark} {journal} r ready eight first = rw first (begun-ready mark r journal eight ready)
+
+-- the record as it is begun
+abbrev pub begunRecord : Parts → Buffers → Record
+begunRecord p b = heldRecord (p .core) (p .held .clock .timer) (p .held .pending) (savedPaperOf (printersIn (p .words)) (b .paper)) (p .words)
+
+-- what the loop has after a turn: the table is what the effect leaves of it
+abbrev pub partsLeft : Parts → Decision → Turned → (core words regs : List ℕ) → Parts
+partsLeft p d r core words regs =
+    record { core = core; held = r .held; regs = regs; rows = rowsAfter (d .effect) (p .rows); words = words; mark = r .mark }
+
+-- start, decide, the old row, finish: together a turn
+pub turned-is : (settings : Settings) (p : Parts) (b : Buffers) → Whole (lentFrom b) → Ready (b .journal) (p .mark) → length (p .rows) ≡ 16 →
+    {after : Held} {core₁ words₁ paper₁ journal₁ : List ℕ} → TickIs settings (p .core) (p .held) (p .words) (b .paper) after core₁ words₁ paper₁ →
+    journal₁ ≡ begunOf (p .mark) (begunRecord p b) (b .journal) →
+    {core : Core} → core ≡ coreIn core₁ →
+    {d : Decision} → d ≡ decideOf core (p .regs) (p .rows) (lentFrom b) →
+    {old : Row} → old ≡ oldRow (d .effect) (p .rows) →
+    {r : Turned} {core₂ words₂ regs₂ ram₂ journal₂ : List ℕ} →
+    ApplyIs settings (sizesOf (lentFrom b)) d core₁ after words₁ (p .regs) (b .ram) (r .held) core₂ words₂ regs₂ ram₂ →
+    ringOf (r .mark) journal₂ ≡ endedOf (p .mark) (savedWith (d .effect) (p .regs) old (b .ram)) journal₁ →
+    TurnIs settings p b (d .effect) (partsLeft p d r core₂ words₂ regs₂) (buffersOf (b .execution) (b .bootstrap) ram₂ paper₁ journal₂)
+turned-is settings p b whole ready sixteen {core₁ = core₁} ticked begun {core} read {d} decided {old} row applied ended =
+    let x = b .execution in
+    let y = b .bootstrap in
+    let t = p .rows in
+    let from = coreIn (p .core) in
+    let board = boardOf (p .held) settings (p .words) in
+    let chosen = decided ∙ ap (λ (c : Core). decideOf c (p .regs) t (lentFrom b)) read in
+    let within = rw (← sixteen) at (decided-fits whole core (p .regs) t sixteen decided) in
+    let kept =
+    ap (λ (o : Row). savedWith (d .effect) (p .regs) o (b .ram)) row ∙ saved-row (length (b .ram)) (p .regs) t (b .ram) (d .effect) within in
+    record {
+      world-is = step-is x y from board t (p .regs) (b .ram) (b .paper) (ticked .world-is) chosen refl (applied .world-is);
+      effect-is = effect-is x y from board t (p .regs) (b .ram) (b .paper) (ticked .world-is) chosen;
+      ring-is =
+          ring-is (p .mark) (b .journal) ready (begunRecord p b) _ (length-printers (p .words)) begun ended
+          (note-is x y from board t (p .regs) (b .ram) (b .paper) (ticked .world-is) chosen refl kept refl);
+      told = applied .told;
+      twelve = applied .twelve;
+    }
 
 -- ---- with no slots
 

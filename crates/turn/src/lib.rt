@@ -1,19 +1,20 @@
-// One step with its record, on the parts that a run holds. The record is begun before the tick with all that it keeps of the state, and ended with what the step
-// overwrites once that is decided: so no old value is kept aside while the step works.
+// One step with its record, on the parts that a run holds: what comes before the decision, and what comes after it. The record is begun before the tick with all that
+// it keeps of the state, and ended with what the step overwrites once that is decided: so no old value is kept aside while the step works. The decision itself, which
+// takes the table by value, is the loop's to ask for: a function that took the table in and on would copy it in every step (docs/SPEED.md).
 ghost use mathlib.Core.Path.{_≡_};
 ghost use lib.ListN.{length};
-ghost use Rattle.tlb.specs.Words.{rowsIn};
 ghost use Rattle.printer.specs.Saved.{savedPaperOf};
 ghost use Rattle.held.specs.Board.{printersIn, Told};
 ghost use Rattle.decide.specs.Range.{Within};
 ghost use Rattle.journal.specs.Journal.{ringOf, Ready, heldRecord, begunOf, endedOf};
-ghost use Rattle.step.specs.Note.{savedOf};
-ghost use Rattle.turn.specs.Turn.{Fit, TurnIs};
+ghost use Rattle.decide.specs.Lent.{lentOf, sizesOf, Whole};
+ghost use Rattle.step.specs.Held.{TickIs, ApplyIs};
+ghost use Rattle.step.specs.Parts.{savedWith};
+ghost use Rattle.turn.specs.Turn.{Fit};
+use decide::effect::Decision;
 use decide::effect::Effect;
 use decide::lent::sizes;
-use decide::step::decide;
 use held::Held;
-use held::core::core_in;
 use held::line::saved_paper;
 use journal::SLOT;
 use journal::begun;
@@ -24,12 +25,21 @@ use state::machine::Settings;
 use step::apply::applied;
 use step::saved::saved;
 use step::tick::ticked;
+use tlb::Row;
 
-// A row of the table is the caller's to set, where the effect says so.
+// The parts that a run holds.
+pub struct Parts {
+    pub core: [u32; 12],
+    pub held: Held,
+    pub regs: [u32; 32],
+    pub rows: [Row; 16],
+    pub words: [u32; 40],
+    pub mark: Journal,
+}
+
 pub struct Turned {
     pub held: Held,
     pub mark: Journal,
-    pub effect: Effect,
 }
 
 // While nothing is busy, nothing is printed (printer/proofs/Notes: idle-note).
@@ -76,54 +86,82 @@ fn end(
     mark: Journal,
     effect: Effect,
     regs: &[u32; 32],
-    rows: &[u32; 32],
+    old: Row,
     ram: &[u8],
 ) -> Journal
     requires { ⌜ Ready (now journal) mark ⌝ }
     requires { ⌜ Within (length (now ram)) 16 effect ⌝ }
     ensures { λ m. ⌜
         ringOf m (now (journal .exit))
-        ≡ endedOf mark (savedOf effect (now (regs .entry)) (rowsIn (now (rows .entry))) (now (ram .entry))) (now (journal .entry))
+        ≡ endedOf mark (savedWith effect (now (regs .entry)) old (now (ram .entry))) (now (journal .entry))
         ⌝ }
 {
     if journal.len() < SLOT {
         return mark;
     }
-    ended(journal, mark, saved(effect, regs, rows, ram))
+    ended(journal, mark, saved(effect, regs, old, ram))
 }
 
-pub fn turn(
+// Before the decision: the record begun, and the tick.
+pub fn start(
     core: &mut [u32; 12],
     held: Held,
     settings: Settings,
     words: &mut [u32; 40],
-    rows: &[u32; 32],
+    paper: &mut [u8],
+    journal: &mut [u8],
+    mark: Journal,
+) -> Held
+    requires { ⌜ Fit (now core) held (now words) (now paper) (now journal) mark ⌝ }
+    ensures { λ r. ⌜
+        TickIs settings (now (core .entry)) held (now (words .entry)) (now (paper .entry)) r
+        (now (core .exit)) (now (words .exit)) (now (paper .exit))
+        ⌝ }
+    ensures { λ _. ⌜
+        now (journal .exit)
+        ≡ begunOf mark
+        (heldRecord (now (core .entry)) (held .clock .timer) (held .pending) (savedPaperOf (printersIn (now (words .entry))) (now (paper .entry))) (now (words .entry)))
+        (now (journal .entry))
+        ⌝ }
+{
+    begin(journal, mark, core, held, words, paper);
+    ticked(core, held, settings, words, paper)
+}
+
+// After the decision: the record ended, and the effect. `old` is the row that the effect overwrites; the table itself is the caller's to set.
+pub fn finish(
+    core: &mut [u32; 12],
+    after: Held,
+    settings: Settings,
+    words: &mut [u32; 40],
+    d: Decision,
+    old: Row,
     regs: &mut [u32; 32],
     execution: &[u8],
     bootstrap: &[u8],
     ram: &mut [u8],
-    paper: &mut [u8],
     journal: &mut [u8],
     mark: Journal,
 ) -> Turned
-    requires { ⌜ Fit (now execution) (now bootstrap) (now core) held (now words) (now ram) (now paper) (now journal) mark ⌝ }
+    requires { ⌜ Ready (now journal) mark ⌝ }
+    requires { ⌜ Within (length (now ram)) 16 (d .effect) ⌝ }
+    requires { ⌜ Told after (now words) ⌝ }
+    requires { ⌜ Whole (lentOf (now execution) (now bootstrap) (now ram)) ⌝ }
     ensures { λ r. ⌜
-        TurnIs (now (execution .entry)) (now (bootstrap .entry)) (now (core .entry)) held settings (now (words .entry)) (now (rows .entry))
-        (now (regs .entry)) (now (ram .entry)) (now (paper .entry)) (now (journal .entry)) mark r
-        (now (core .exit)) (now (words .exit)) (now (regs .exit)) (now (ram .exit)) (now (paper .exit)) (now (journal .exit))
+        ApplyIs settings (sizesOf (lentOf (now (execution .entry)) (now (bootstrap .entry)) (now (ram .entry)))) d (now (core .entry)) after
+        (now (words .entry)) (now (regs .entry)) (now (ram .entry)) (r .held) (now (core .exit)) (now (words .exit)) (now (regs .exit)) (now (ram .exit))
+        ⌝ }
+    ensures { λ r. ⌜
+        ringOf (r .mark) (now (journal .exit))
+        ≡ endedOf mark (savedWith (d .effect) (now (regs .entry)) old (now (ram .entry))) (now (journal .entry))
         ⌝ }
 {
-    begin(journal, mark, core, held, words, paper);
-    let after = ticked(core, held, settings, words, paper);
-    let now = core_in(core);
-    let d = decide(now, regs, rows, execution, bootstrap, ram);
     let effect = d.effect;
-    let next = end(journal, mark, effect, regs, rows, ram);
+    let next = end(journal, mark, effect, regs, old, ram);
     let lent = sizes(execution, bootstrap, ram);
     let left = applied(core, after, settings, words, d, lent, regs, ram);
     Turned {
         held: left,
         mark: next,
-        effect,
     }
 }

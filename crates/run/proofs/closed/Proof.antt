@@ -1,4 +1,4 @@
--- `run::closed` meets its contract.
+-- `run::closed` meets its contract, part by part: the core and the printers are read from their words, and all else stays as it is.
 use borrow.Author.Needs.{needs}
 use Rattle.run.proofs.closed.Statement.{statement}
 use Rattle.run.proofs.closed.Tie as tie
@@ -9,11 +9,11 @@ unpacked-requires c κs = search needs
 core-in-requires : tie.Need-core-in-requires
 core-in-requires c κs = search needs
 
-rows-in-requires : tie.Need-rows-in-requires
-rows-in-requires c κs = search needs
-
 returns : tie.Need-returns
-returns c = cc
+returns c =
+    let read = c .before .before in
+    let line = read .before .before .before .before in
+    rw (read .core-in .ensures, line .unpacked .ensures)
 
 pub closed-spec : {M : Type 1} → statement M
-closed-spec = tie.close (tie.spec unpacked-requires core-in-requires rows-in-requires returns)
+closed-spec = tie.close (tie.spec unpacked-requires core-in-requires returns)

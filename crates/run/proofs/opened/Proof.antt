@@ -6,9 +6,6 @@ use Rattle.run.proofs.opened.Tie as tie
 core-words-requires : tie.Need-core-words-requires
 core-words-requires c κs = search needs
 
-row-words-requires : tie.Need-row-words-requires
-row-words-requires c κs = search needs
-
 any-busy-requires : tie.Need-any-busy-requires
 any-busy-requires c κs = search needs
 
@@ -19,9 +16,8 @@ returns : tie.Need-returns
 returns c =
     let packed = c .before in
     let asked = packed .before in
-    let rows = asked .before .before .before .before .before in
-    let core = rows .before .before .before in
-    rw (packed .packed .ensures, asked .any-busy .ensures, rows .row-words .ensures, core .core-words .ensures)
+    let core = asked .before .before .before .before .before .before .before in
+    rw (packed .packed .ensures, asked .any-busy .ensures, core .core-words .ensures)
 
 pub opened-spec : {M : Type 1} → statement M
-opened-spec = tie.close (tie.spec core-words-requires row-words-requires any-busy-requires packed-requires returns)
+opened-spec = tie.close (tie.spec core-words-requires any-busy-requires packed-requires returns)

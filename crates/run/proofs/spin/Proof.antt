@@ -1,4 +1,4 @@
--- `run::spin` meets its contract: at the loop's head the run from the start is the run from here, `steps` later.
+-- `run::spin` meets its contract: at the loop's head the run from the start is the run from here, `steps` later. What a turn's calls ensure is one step (`turned-is`).
 -- The arms differ in what they know of the effect; `again` and `ends` take each of them from the turn's statement.
 use Prim.Native.Nat.{ℕ, _≤_, _<_, _+_, _-_}
 use mathlib.Core.Path.{_≡_, _∙_, refl, sym, ap}
@@ -11,16 +11,22 @@ use Rattle.ring.specs.Run as ring
 use Rattle.ring.proofs.Run.{Reached, reached-start, reached-spent}
 use Rattle.journal.specs.Journal.{slotsOf}
 use Rattle.journal.specs.Journal as slots
-use Rattle.tlb.specs.Words.{rowsIn}
-use Rattle.tlb.proofs.Words.{rows-stored}
+use Rattle.tlb.specs.declared.Row.{Row}
+use Rattle.tlb.proofs.Laws.{written-row, length-written}
+use Rattle.decide.specs.Lent.{Whole}
+use Rattle.decide.specs.Range.{Within}
 use Rattle.decide.specs.declared.effect.Effect.{Effect}
+use Rattle.decide.specs.declared.effect.Decision.{Decision}
 use Rattle.held.specs.Board.{Told}
+use Rattle.held.proofs.Board.{length-printers}
 use Rattle.step.specs.World.{Roms, romsOf}
 use Rattle.step.specs.Parts.{rowsAfter}
 use Rattle.step.specs.Step.{enters}
+use Rattle.turn.specs.Turn.{Buffers, buffersOf, romsIn, lentFrom, TurnIs}
+use Rattle.turn.specs.declared.Parts.{Parts}
+use Rattle.turn.proofs.Steps.{turned-is, partsLeft, decided-fits, still-ready}
 use Rattle.run.specs.Run.{forward}
 use Rattle.run.specs.Spin.{configOf}
-use Rattle.run.specs.declared.Parts.{Parts}
 use Rattle.run.proofs.Turns as turns
 use borrow.Author.Needs.{needs}
 use Rattle.run.proofs.spin.Statement.{statement}
@@ -35,100 +41,138 @@ Inv-loop settings execution bootstrap ram₀ paper₀ journal₀ budget stop cor
     × (length journal ≡ length journal₀)
     × Told held words
     × slots.Ready journal mark
-    × (length rows ≡ 32)
+    × (length rows ≡ 16)
     × (length core ≡ 12)
     × Reached (forward (romsOf execution bootstrap)) (slotsOf journal₀) budget stop
-    (configOf (romsOf execution bootstrap) (record { core = core₀; held = held₀; regs = regs₀; rows = rows₀; words = words₀; mark = mark₀ }) settings ram₀ paper₀ journal₀)
+    (configOf (romsOf execution bootstrap) settings (record { core = core₀; held = held₀; regs = regs₀; rows = rows₀; words = words₀; mark = mark₀ })
+    (buffersOf execution bootstrap ram₀ paper₀ journal₀))
     steps
-    (configOf (romsOf execution bootstrap) (record { core = core; held = held; regs = regs; rows = rows; words = words; mark = mark }) settings ram paper journal)
+    (configOf (romsOf execution bootstrap) settings (record { core = core; held = held; regs = regs; rows = rows; words = words; mark = mark })
+    (buffersOf execution bootstrap ram paper journal))
 
 abbrev μ-loop : tie.MeasureT-loop
 μ-loop settings execution bootstrap ram₀ paper₀ journal₀ budget stop core₀ held₀ regs₀ rows₀ words₀ mark₀ steps₀ ram paper journal core held regs rows words mark steps = budget - steps
 
+abbrev Head : Type 0
+Head = tie.At-loop Inv-loop μ-loop
+
 abbrev After : Type 0
 After = tie.After-mark2 Inv-loop μ-loop
 
-abbrev head : After → tie.At-loop Inv-loop μ-loop
-head c = c .before .before .before .before .before .before .before .before .before .before .before .before .before .before .before .before .before
+abbrev finished : After → tie.After-finish Inv-loop μ-loop
+finished c = c .before .before .before .before .before .before
 
-abbrev turned : After → tie.After-turn Inv-loop μ-loop
-turned c = c .before .before .before .before .before .before .before .before
+abbrev asked : After → tie.After-old-row Inv-loop μ-loop
+asked c = finished c .before .before .before .before .before .before
 
-abbrev entry : After → tie.Start Inv-loop μ-loop
-entry c = head c .before .before .before .before .before .before .before .before .before .before .before .before
+abbrev decided : After → tie.After-decide Inv-loop μ-loop
+decided c = asked c .before
 
-left-of : (c : After) → head c .loop .steps < entry c .args .budget
-left-of c = omega (arith, c .before .before .before .before .before .before .before .before .before .before .before .before .before .before .before .before .if1 .left, head c .loop .inv .0)
+abbrev read : After → tie.After-core-in Inv-loop μ-loop
+read c = decided c .before .before .before
+
+abbrev started : After → tie.After-start Inv-loop μ-loop
+started c = read c .before .before .before .before .before .before
+
+abbrev head : After → Head
+head c = started c .before .before .before .before .before .before
+
+abbrev entry : Head → tie.Start Inv-loop μ-loop
+entry h = h .before .before .before .before .before .before .before .before .before .before .before .before
+
+-- the parts and buffers of a turn's start
+abbrev partsAt : Head → Parts
+partsAt h = let l = h .loop in record { core = l .core; held = l .held; regs = l .regs; rows = l .rows; words = l .words; mark = l .mark }
+
+abbrev buffersAt : Head → Buffers
+buffersAt h = let a = entry h .args in buffersOf (a .execution .now) (a .bootstrap .now) (h .loop .ram) (h .loop .paper) (h .loop .journal)
+
+whole-at : (h : Head) → Whole (lentFrom (buffersAt h))
+whole-at h = turns.still-whole (h .loop .inv .1) (entry h .pre .whole)
+
+within-at : (d : tie.After-decide Inv-loop μ-loop) → Within (length (d .before .before .before .before .before .before .before .before .before .before .before .before .before .before .before .loop .ram)) 16 (d .decide .result .effect)
+within-at d = let h = d .before .before .before .before .before .before .before .before .before .before .before .before .before .before .before in decided-fits (whole-at h) _ _ (h .loop .rows) (h .loop .inv .6) (d .decide .ensures)
+
+left-of : (c : After) → head c .loop .steps < entry (head c) .args .budget
+left-of c = omega (arith, started c .before .before .before .before .before .if1 .left, head c .loop .inv .0)
 
 -- The turn's statement, the effect that the arm knows and what is left of the budget take the run one step on, or end it.
-module _ (c : After) {e : Effect} (told : turned c .turn .result .effect ≡ e) (rows : List ℕ) (put : rowsAfter e (rowsIn (head c .loop .rows)) ≡ rowsIn rows)
-    (long : length rows ≡ 32) where
+module _ (c : After) where
+  abbrev h : Head
+  h = head c
+
   abbrev a : tie.Start Inv-loop μ-loop
-  a = entry c
+  a = entry h
+
+  abbrev d : Decision
+  d = decided c .decide .result
 
   abbrev roms : Roms
-  roms = romsOf (a .args .execution .now) (a .args .bootstrap .now)
+  roms = romsIn (buffersAt h)
 
   abbrev from : Config (forward roms)
-  from = configOf roms (a .args .parts) (a .args .settings) (a .args .ram .now) (a .args .paper .now) (a .args .journal .now)
+  from = configOf roms (a .args .settings) (a .args .parts) (buffersOf (a .args .execution .now) (a .args .bootstrap .now) (a .args .ram .now) (a .args .paper .now) (a .args .journal .now))
 
-  abbrev parts : Parts
-  parts =
-      let t = turned c .turn in
-      record {
-        core = t .last .0;
-        held = t .result .held;
-        regs = t .last .1 .1 .1 .1 .1 .0;
-        rows = rows;
-        words = t .last .1 .1 .1 .0;
-        mark = t .result .mark;
-      }
+  abbrev partsThen : Parts
+  partsThen = let f = finished c .finish in partsLeft (partsAt h) d (f .result) (f .last .0) (f .last .1 .1 .1 .0) (f .last .1 .1 .1 .1 .1 .1 .0)
 
-  abbrev there : Config (forward roms)
-  there = let t = turned c .turn in configOf roms parts (a .args .settings) (t .last .1 .1 .1 .1 .1 .1 .1 .1 .0) (t .last .1 .1 .1 .1 .1 .1 .1 .1 .1 .0) (t .last .1 .1 .1 .1 .1 .1 .1 .1 .1 .1 .0)
+  abbrev buffersThen : Buffers
+  buffersThen =
+      let f = finished c .finish in
+      buffersOf (a .args .execution .now) (a .args .bootstrap .now) (f .last .1 .1 .1 .1 .1 .1 .1 .1 .1 .0) (started c .start .last .1 .1 .1 .1 .0) (f .last .1 .1 .1 .1 .1 .1 .1 .1 .1 .1 .0)
 
-  abbrev left : head c .loop .steps < a .args .budget
-  left = left-of c
+  turn-is : TurnIs (a .args .settings) (partsAt h) (buffersAt h) (d .effect) partsThen buffersThen
+  turn-is =
+      turned-is (a .args .settings) (partsAt h) (buffersAt h) (whole-at h) (h .loop .inv .5) (h .loop .inv .6) (started c .start .ensures .0) (started c .start .ensures .1)
+      (read c .core-in .ensures) (decided c .decide .ensures) (asked c .old-row .ensures) (finished c .finish .ensures .0) (finished c .finish .ensures .1)
 
-  same : slotsOf (head c .loop .journal) ≡ slotsOf (a .args .journal .now)
-  same = rw (head c .loop .inv .3)
+  journal-long : length (buffersThen .journal) ≡ length (h .loop .journal)
+  journal-long = finished c .finish .kept .1 .1 .1 .1 .1 .1 .1 .1 .1 .1 .0 ∙ started c .start .kept .1 .1 .1 .1 .1 .0
 
-  abbrev Onward : Type 0
-  Onward =
-      let t = turned c .turn in
-      (head c .loop .steps + 1 ≤ a .args .budget)
-      × (length (t .last .1 .1 .1 .1 .1 .1 .1 .1 .0) ≡ length (a .args .ram .now))
-      × (length (t .last .1 .1 .1 .1 .1 .1 .1 .1 .1 .0) ≡ length (a .args .paper .now))
-      × (length (t .last .1 .1 .1 .1 .1 .1 .1 .1 .1 .1 .0) ≡ length (a .args .journal .now))
-      × Told (parts .held) (parts .words)
-      × slots.Ready (t .last .1 .1 .1 .1 .1 .1 .1 .1 .1 .1 .0) (parts .mark)
-      × (length rows ≡ 32)
-      × (length (parts .core) ≡ 12)
-      × Reached (forward roms) (slotsOf (a .args .journal .now)) (a .args .budget) (a .args .stop) from (head c .loop .steps + 1) there
+  same : slotsOf (h .loop .journal) ≡ slotsOf (a .args .journal .now)
+  same = rw (h .loop .inv .3)
 
-  again : (a .args .stop && enters e) ≡ false → Onward
-  again q =
-      let t = turned c .turn in
-      let i = head c .loop .inv in (
-        omega (arith, left),
-        t .kept .1 .1 .1 .1 .1 .1 .1 .1 .0 ∙ i .1,
-        t .kept .1 .1 .1 .1 .1 .1 .1 .1 .1 .0 ∙ i .2,
-        t .kept .1 .1 .1 .1 .1 .1 .1 .1 .1 .1 .0 ∙ i .3,
-        t .ensures .told,
-        turns.ready _ _ (slotsOf (a .args .journal .now)) (a .args .budget) (a .args .stop) (t .ensures) (t .kept .1 .1 .1 .1 .1 .1 .1 .1 .1 .1 .0) (i .5),
-        long,
-        t .ensures .twelve,
-        turns.goes _ _ _ _ (a .args .stop) (t .ensures) same told rows put from (head c .loop .steps) left (i .8) q,
-      )
+  module _ {e : Effect} (told : d .effect ≡ e) (rows : List Row) (put : rowsAfter e (h .loop .rows) ≡ rows) (long : length rows ≡ 16) where
+    abbrev there : Config (forward roms)
+    there = configOf roms (a .args .settings) (turns.withRows rows partsThen) buffersThen
 
-  onward : enters e ≡ false → Onward
-  onward quiet = again (rw quiet (turns.and-false (a .args .stop)))
+    left-rows : partsThen .rows ≡ rows
+    left-rows = ap (λ (x : Effect). rowsAfter x (h .loop .rows)) told ∙ put
 
-  ends : (a .args .stop && enters e) ≡ true → ring.run (forward roms) (slotsOf (a .args .journal .now)) (a .args .budget) (a .args .stop) from ≡ ended there (head c .loop .steps + 1) excepted
-  ends q = turns.ends _ _ _ _ (a .args .stop) (turned c .turn .ensures) same told rows put from (head c .loop .steps) left (head c .loop .inv .8) q
+    abbrev Onward : Type 0
+    Onward =
+        (h .loop .steps + 1 ≤ a .args .budget)
+        × (length (buffersThen .ram) ≡ length (a .args .ram .now))
+        × (length (buffersThen .paper) ≡ length (a .args .paper .now))
+        × (length (buffersThen .journal) ≡ length (a .args .journal .now))
+        × Told (partsThen .held) (partsThen .words)
+        × slots.Ready (buffersThen .journal) (partsThen .mark)
+        × (length rows ≡ 16)
+        × (length (partsThen .core) ≡ 12)
+        × Reached (forward roms) (slotsOf (a .args .journal .now)) (a .args .budget) (a .args .stop) from (h .loop .steps + 1) there
+
+    again : (a .args .stop && enters e) ≡ false → Onward
+    again q =
+        let i = h .loop .inv in (
+          omega (arith, left-of c),
+          finished c .finish .kept .1 .1 .1 .1 .1 .1 .1 .1 .1 .0 ∙ i .1,
+          started c .start .kept .1 .1 .1 .1 .0 ∙ i .2,
+          journal-long ∙ i .3,
+          turn-is .told,
+          turns.ready (slotsOf (a .args .journal .now)) (a .args .budget) (a .args .stop) turn-is journal-long (i .5),
+          long,
+          turn-is .twelve,
+          turns.goes _ _ (a .args .stop) turn-is same told rows left-rows from (h .loop .steps) (left-of c) (i .8) q,
+        )
+
+    onward : enters e ≡ false → Onward
+    onward quiet = again (rw quiet (turns.and-false (a .args .stop)))
+
+    ends : (a .args .stop && enters e) ≡ true → ring.run (forward roms) (slotsOf (a .args .journal .now)) (a .args .budget) (a .args .stop) from ≡ ended there (h .loop .steps + 1) excepted
+    ends q = turns.ends _ _ (a .args .stop) turn-is same told rows left-rows from (h .loop .steps) (left-of c) (h .loop .inv .8) q
 
 -- an effect that sets no row
-stays : (c : After) {e : Effect} (told : turned c .turn .result .effect ≡ e) (same : rowsAfter e (rowsIn (head c .loop .rows)) ≡ rowsIn (head c .loop .rows)) → enters e ≡ false →
+stays : (c : After) {e : Effect} (told : decided c .decide .result .effect ≡ e) (same : rowsAfter e (head c .loop .rows) ≡ head c .loop .rows) → enters e ≡ false →
     Onward c told (head c .loop .rows) same (head c .loop .inv .6)
 stays c told same quiet = onward c told (head c .loop .rows) same (head c .loop .inv .6) quiet
 
@@ -137,26 +181,40 @@ loop-holds c =
     let start = c .before .before .before .before .before .before .before .before .before .before .before in
     (omega arith, refl, refl, refl, start .pre .told, start .pre .ready, start .pre .table, start .pre .twelve, reached-start _ _ _ _ _)
 
-turn-requires : tie.Need-turn-requires Inv-loop μ-loop
-turn-requires c κs =
-    let h = c .before .before .before .before .before .before .before .before in
-    let start = h .before .before .before .before .before .before .before .before .before .before .before .before in
+start-requires : tie.Need-start-requires Inv-loop μ-loop
+start-requires c κs =
+    let h = c .before .before .before .before .before in
     record {
       twelve = h .loop .inv .7;
       told = h .loop .inv .4;
-      whole = turns.still-whole (h .loop .inv .1) (start .pre .whole);
-      short = rw (h .loop .inv .2) (start .pre .short);
+      short = rw (h .loop .inv .2) (entry h .pre .short);
       ready = h .loop .inv .5;
     }
 
+core-in-requires : tie.Need-core-in-requires Inv-loop μ-loop
+core-in-requires c κs = search needs
+
+decide-requires : tie.Need-decide-requires Inv-loop μ-loop
+decide-requires c κs = whole-at (c .before .before .before .before .before .before .before .before .before .before .before .before .before .before)
+
+old-row-requires : tie.Need-old-row-requires Inv-loop μ-loop
+old-row-requires c κs = search needs
+
+finish-requires : tie.Need-finish-requires Inv-loop μ-loop
+finish-requires c κs =
+    let decided = c .before .before .before .before .before .before in
+    let started = decided .before .before .before .before .before .before .before .before .before in
+    let h = started .before .before .before .before .before .before in
+    (still-ready _ (h .loop .inv .5) (length-printers (h .loop .words)) (started .start .ensures .1), (within-at decided, (started .start .ensures .0 .told, whole-at h)))
+
 add-steps : tie.Need-add-steps Inv-loop μ-loop
-add-steps c = omega (arith, left-of c, entry c .fits .budget)
+add-steps c = omega (arith, left-of c, entry (head c) .fits .budget)
 
 enum-told : tie.Need-enum-told Inv-loop μ-loop
 enum-told c = search needs
 
 loop-less : tie.Need-loop-less Inv-loop μ-loop
-loop-less c = omega arith
+loop-less c = omega (arith, left-of (c .before .before .before))
 
 loop-again : tie.Need-loop-again Inv-loop μ-loop
 loop-again c =
@@ -166,30 +224,30 @@ loop-again c =
 enum-known-effect : tie.Need-enum-known-effect Inv-loop μ-loop
 enum-known-effect c = search needs
 
-put-row-requires : tie.Need-put-row-requires Inv-loop μ-loop
-put-row-requires c κs =
-    let m = c .before .before .before .before in
-    turns.row-in _ _ (slotsOf (entry m .args .journal .now)) (entry m .args .budget) (entry m .args .stop) (turned m .turn .ensures)
-    (turns.still-whole (head m .loop .inv .1) (entry m .pre .whole)) (c .before .before .effect .given .1)
+cast-write : tie.Need-cast-write Inv-loop μ-loop
+cast-write c = search needs
+
+write-requires : tie.Need-write-requires Inv-loop μ-loop
+write-requires c κs = search needs
 
 loop-less-2 : tie.Need-loop-less-2 Inv-loop μ-loop
-loop-less-2 c = omega (arith, left-of (c .before .before .before .before .before))
+loop-less-2 c = omega (arith, left-of (c .before .before .before .before))
 
 loop-again-2 : tie.Need-loop-again-2 Inv-loop μ-loop
 loop-again-2 c =
-    let known = c .before .before .before in
+    let known = c .before .before in
     let m = known .before .before in
-    let few =
-    turns.row-in _ _ (slotsOf (entry m .args .journal .now)) (entry m .args .budget) (entry m .args .stop) (turned m .turn .ensures)
-    (turns.still-whole (head m .loop .inv .1) (entry m .pre .whole)) (known .effect .given .1) in
-    onward m (known .effect .given .1) (c .put-row .last .0) (sym (ap rowsIn (c .put-row .ensures) ∙ rows-stored (head m .loop .rows) _ _ (head m .loop .inv .6) few))
-    (ap (λ (l : List ℕ). length l) (c .put-row .ensures) ∙ turns.long-set (head m .loop .rows) _ _ _ _ ∙ head m .loop .inv .6) refl
+    let rows = head m .loop .rows in
+    let told = known .effect .given .1 in
+    let few = rw (← head m .loop .inv .6) at (turns.in-rows _ 16 told (within-at (decided m))) in
+    onward m told (c .write .result) (sym (c .write .ensures ∙ written-row rows _ few _))
+    (ap (λ (l : List Row). length l) (c .write .ensures) ∙ length-written rows _ _ ∙ head m .loop .inv .6) refl
 
 enum-told-2 : tie.Need-enum-told-2 Inv-loop μ-loop
 enum-told-2 c = search needs
 
 loop-less-3 : tie.Need-loop-less-3 Inv-loop μ-loop
-loop-less-3 c = omega arith
+loop-less-3 c = omega (arith, left-of (c .before .before))
 
 loop-again-3 : tie.Need-loop-again-3 Inv-loop μ-loop
 loop-again-3 c = stays (c .before .before) (c .enum-told2 .given .1) refl refl
@@ -198,7 +256,7 @@ enum-told-3 : tie.Need-enum-told-3 Inv-loop μ-loop
 enum-told-3 c = search needs
 
 loop-less-4 : tie.Need-loop-less-4 Inv-loop μ-loop
-loop-less-4 c = omega arith
+loop-less-4 c = omega (arith, left-of (c .before .before))
 
 loop-again-4 : tie.Need-loop-again-4 Inv-loop μ-loop
 loop-again-4 c = stays (c .before .before) (c .enum-told3 .given .1) refl refl
@@ -207,7 +265,7 @@ enum-told-4 : tie.Need-enum-told-4 Inv-loop μ-loop
 enum-told-4 c = search needs
 
 loop-less-5 : tie.Need-loop-less-5 Inv-loop μ-loop
-loop-less-5 c = omega arith
+loop-less-5 c = omega (arith, left-of (c .before .before))
 
 loop-again-5 : tie.Need-loop-again-5 Inv-loop μ-loop
 loop-again-5 c = stays (c .before .before) (c .enum-told4 .given .1) refl refl
@@ -216,7 +274,7 @@ enum-told-5 : tie.Need-enum-told-5 Inv-loop μ-loop
 enum-told-5 c = search needs
 
 loop-less-6 : tie.Need-loop-less-6 Inv-loop μ-loop
-loop-less-6 c = omega arith
+loop-less-6 c = omega (arith, left-of (c .before .before))
 
 loop-again-6 : tie.Need-loop-again-6 Inv-loop μ-loop
 loop-again-6 c = stays (c .before .before) (c .enum-told5 .given .1) refl refl
@@ -225,7 +283,7 @@ enum-told-6 : tie.Need-enum-told-6 Inv-loop μ-loop
 enum-told-6 c = search needs
 
 loop-less-7 : tie.Need-loop-less-7 Inv-loop μ-loop
-loop-less-7 c = omega arith
+loop-less-7 c = omega (arith, left-of (c .before .before))
 
 loop-again-7 : tie.Need-loop-again-7 Inv-loop μ-loop
 loop-again-7 c = stays (c .before .before) (c .enum-told6 .given .1) refl refl
@@ -234,7 +292,7 @@ enum-told-7 : tie.Need-enum-told-7 Inv-loop μ-loop
 enum-told-7 c = search needs
 
 loop-less-8 : tie.Need-loop-less-8 Inv-loop μ-loop
-loop-less-8 c = omega arith
+loop-less-8 c = omega (arith, left-of (c .before .before))
 
 loop-again-8 : tie.Need-loop-again-8 Inv-loop μ-loop
 loop-again-8 c = stays (c .before .before) (c .enum-told7 .given .1) refl refl
@@ -243,7 +301,7 @@ enum-told-8 : tie.Need-enum-told-8 Inv-loop μ-loop
 enum-told-8 c = search needs
 
 loop-less-9 : tie.Need-loop-less-9 Inv-loop μ-loop
-loop-less-9 c = omega arith
+loop-less-9 c = omega (arith, left-of (c .before .before))
 
 loop-again-9 : tie.Need-loop-again-9 Inv-loop μ-loop
 loop-again-9 c = stays (c .before .before) (c .enum-told8 .given .1) refl refl
@@ -252,7 +310,7 @@ enum-told-9 : tie.Need-enum-told-9 Inv-loop μ-loop
 enum-told-9 c = search needs
 
 loop-less-10 : tie.Need-loop-less-10 Inv-loop μ-loop
-loop-less-10 c = omega arith
+loop-less-10 c = omega (arith, left-of (c .before .before))
 
 loop-again-10 : tie.Need-loop-again-10 Inv-loop μ-loop
 loop-again-10 c = stays (c .before .before) (c .enum-told9 .given .1) refl refl
@@ -272,13 +330,13 @@ returns c =
     sym (reached-spent _ _ _ _ _ (h .steps) _ (c .if1 .taken) (h .inv .8))
 
 same-length-4 : tie.Need-same-length-4 Inv-loop μ-loop
-same-length-4 c = let m = c .before .before .before in turned m .turn .kept .1 .1 .1 .1 .1 .1 .1 .1 .0 ∙ head m .loop .inv .1
+same-length-4 c = let m = c .before .before .before in finished m .finish .kept .1 .1 .1 .1 .1 .1 .1 .1 .1 .0 ∙ head m .loop .inv .1
 
 same-length-5 : tie.Need-same-length-5 Inv-loop μ-loop
-same-length-5 c = let m = c .before .before .before in turned m .turn .kept .1 .1 .1 .1 .1 .1 .1 .1 .1 .0 ∙ head m .loop .inv .2
+same-length-5 c = let m = c .before .before .before in started m .start .kept .1 .1 .1 .1 .0 ∙ head m .loop .inv .2
 
 same-length-6 : tie.Need-same-length-6 Inv-loop μ-loop
-same-length-6 c = let m = c .before .before .before in turned m .turn .kept .1 .1 .1 .1 .1 .1 .1 .1 .1 .1 .0 ∙ head m .loop .inv .3
+same-length-6 c = let m = c .before .before .before in journal-long m ∙ head m .loop .inv .3
 
 returns-2 : tie.Need-returns-2 Inv-loop μ-loop
 returns-2 c =
@@ -292,13 +350,18 @@ spin-spec =
     Inv-loop
     μ-loop
     loop-holds
-    turn-requires
+    start-requires
+    core-in-requires
+    decide-requires
+    old-row-requires
+    finish-requires
     add-steps
     enum-told
     loop-less
     loop-again
     enum-known-effect
-    put-row-requires
+    cast-write
+    write-requires
     loop-less-2
     loop-again-2
     enum-told-2

@@ -1,8 +1,7 @@
 -- `turn::end` meets its contract.
 use mathlib.Core.Path.{sym, ap, _∙_}
 use Rattle.record.specs.declared.Saved.{Saved}
-use Rattle.tlb.specs.Words.{rowsIn}
-use Rattle.step.specs.Note.{savedOf}
+use Rattle.step.specs.Parts.{savedWith}
 use Rattle.journal.specs.Journal.{endedOf}
 use Rattle.turn.proofs.Steps.{not-ended}
 use borrow.Author.Needs.{needs}
@@ -12,7 +11,7 @@ use Rattle.turn.proofs.end.Tie as tie
 returns : tie.Need-returns
 returns c =
     let a = c .before .before .before .args in
-    sym (not-ended (a .mark) (savedOf (a .effect) (a .regs .now) (rowsIn (a .rows .now)) (a .ram .now)) (a .journal .now) (c .if1 .taken))
+    sym (not-ended (a .mark) (savedWith (a .effect) (a .regs .now) (a .old) (a .ram .now)) (a .journal .now) (c .if1 .taken))
 
 saved-requires : tie.Need-saved-requires
 saved-requires c κs = c .before .before .before .before .pre .1

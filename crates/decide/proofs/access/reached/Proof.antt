@@ -1,5 +1,4 @@
 -- `decide::access::reached` meets its contract: what comes before the bus, under Status and EntryHi, then the bus.
-use Rattle.tlb.specs.Words.{rowsIn}
 use Rattle.decide.proofs.InParts.{reached-in-parts}
 use borrow.Author.Needs.{needs}
 use Rattle.decide.proofs.access.reached.Statement.{statement}
@@ -17,7 +16,7 @@ landed-requires c κs = search needs
 returns : tie.Need-returns
 returns c =
     let a = c .before .before .before .args in
-    reached-in-parts (a .kind) (a .width) (a .cp0) (rowsIn (a .rows .now)) (a .sizes) (a .va) (c .before .before .mode-of .ensures) (c .before .physical .ensures) (c .landed .ensures)
+    reached-in-parts (a .kind) (a .width) (a .cp0) (a .rows) (a .sizes) (a .va) (c .before .before .mode-of .ensures) (c .before .physical .ensures) (c .landed .ensures)
 
 pub reached-spec : {M : Type 1} → statement M
 reached-spec =

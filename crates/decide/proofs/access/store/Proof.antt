@@ -1,7 +1,6 @@
 -- `decide::access::store` meets its contract: the address, then its answer, which a plain access has without the table (`plain-lands`).
 use mathlib.Core.Path.{sym, _∙_}
 use native.Mathlib.Omega.{arith}
-use Rattle.tlb.specs.Words.{rowsIn}
 use Rattle.reach.proofs.PlainLands.{is-plain}
 use Rattle.reach.specs.declared.access.Kind.the-variants as kind
 use Rattle.decide.proofs.Plain.{plain-lands}
@@ -35,7 +34,7 @@ returns c =
       ← c .before .before .before .before .before .reg .ensures,
       ← c .before .before .before .before .addiu .ensures,
       ← c .before .before .before .store-width .ensures,
-      plain-lands kind.Store (c .before .before .before .store-width .result) (start .args .cp0) (rowsIn (start .args .rows .now)) (start .args .sizes) (c .before .before .before .before .addiu .result) (sym (c .before .before .plain .ensures) ∙ c .before .if1 .taken),
+      plain-lands kind.Store (c .before .before .before .store-width .result) (start .args .cp0) (start .args .rows) (start .args .sizes) (c .before .before .before .before .addiu .result) (sym (c .before .before .plain .ensures) ∙ c .before .if1 .taken),
     )
 
 reached-requires : tie.Need-reached-requires

@@ -1,5 +1,6 @@
 -- `decide::control::function` meets its contract: by cases; the table has sixteen rows, so the definition's remainder is the code's.
-use Rattle.tlb.proofs.Words.{length-rows}
+use mathlib.Core.Path.{_≡_}
+use lib.ListN.{length}
 use Rattle.decide.specs.Control.{functionOf}
 use borrow.Author.Needs.{needs}
 use Rattle.decide.proofs.control.function.Statement.{statement}
@@ -26,9 +27,6 @@ written-requires c κs = search needs
 enum-told-2 : tie.Need-enum-told-2
 enum-told-2 c = search needs
 
-rows-in-requires : tie.Need-rows-in-requires
-rows-in-requires c κs = search needs
-
 index-requires : tie.Need-index-requires
 index-requires c κs = search needs
 
@@ -41,8 +39,8 @@ enum-told-3 c = search needs
 index-requires-2 : tie.Need-index-requires-2
 index-requires-2 c κs = search needs
 
-cast-t19 : tie.Need-cast-t19
-cast-t19 c = search needs
+cast-t18 : tie.Need-cast-t18
+cast-t18 c = search needs
 
 entry-requires : tie.Need-entry-requires
 entry-requires c κs = search needs
@@ -53,17 +51,14 @@ enum-told-4 c = search needs
 index-requires-3 : tie.Need-index-requires-3
 index-requires-3 c κs = search needs
 
-cast-t23 : tie.Need-cast-t23
-cast-t23 c = search needs
+cast-t22 : tie.Need-cast-t22
+cast-t22 c = search needs
 
 entry-requires-2 : tie.Need-entry-requires-2
 entry-requires-2 c κs = search needs
 
 enum-told-5 : tie.Need-enum-told-5
 enum-told-5 c = search needs
-
-rows-in-requires-2 : tie.Need-rows-in-requires-2
-rows-in-requires-2 c κs = search needs
 
 probe-requires : tie.Need-probe-requires
 probe-requires c κs = search needs
@@ -88,19 +83,19 @@ returns-3 c = rw (c .before .before .before .control2 .given .1, c .written .ens
 
 returns-4 : tie.Need-returns-4
 unfolding functionOf
-returns-4 c = rw (c .before .before .before .enum-told2 .given .1, c .read2 .ensures, c .before .index .ensures, c .before .before .rows-in .ensures)
+returns-4 c = rw (c .before .before .enum-told2 .given .1, c .read2 .ensures, c .before .index .ensures)
 
 returns-5 : tie.Need-returns-5
 unfolding functionOf
-returns-5 c = let sixteen = length-rows (c .before .before .before .before .args .rows .now) in rw (c .before .before .enum-told3 .given .1, c .entry .ensures, c .before .index2 .ensures, sixteen)
+returns-5 c = let sixteen : length (c .before .before .before .before .args .rows) ≡ 16 = search needs in rw (c .before .before .enum-told3 .given .1, c .entry .ensures, c .before .index2 .ensures, sixteen)
 
 returns-6 : tie.Need-returns-6
 unfolding functionOf
-returns-6 c = let sixteen = length-rows (c .before .before .before .before .args .rows .now) in rw (c .before .before .enum-told4 .given .1, c .entry2 .ensures, c .before .index3 .ensures, sixteen)
+returns-6 c = let sixteen : length (c .before .before .before .before .args .rows) ≡ 16 = search needs in rw (c .before .before .enum-told4 .given .1, c .entry2 .ensures, c .before .index3 .ensures, sixteen)
 
 returns-7 : tie.Need-returns-7
 unfolding functionOf
-returns-7 c = rw (c .before .before .enum-told5 .given .1, c .probe .ensures, c .before .rows-in2 .ensures)
+returns-7 c = rw (c .before .enum-told5 .given .1, c .probe .ensures)
 
 returns-8 : tie.Need-returns-8
 unfolding functionOf
@@ -117,19 +112,17 @@ function-spec =
     reg-requires
     written-requires
     enum-told-2
-    rows-in-requires
     index-requires
     read-requires-2
     enum-told-3
     index-requires-2
-    cast-t19
+    cast-t18
     entry-requires
     enum-told-4
     index-requires-3
-    cast-t23
+    cast-t22
     entry-requires-2
     enum-told-5
-    rows-in-requires-2
     probe-requires
     enum-told-6
     popped-requires

@@ -1,5 +1,4 @@
 -- `decide::fetch::fetch_slow` meets its contract: the answer, and the word where it lands, for which there is room (`reached-room`).
-use Rattle.tlb.specs.Words.{rowsIn}
 use Rattle.reach.specs.declared.access.Kind.the-variants.{Fetch}
 use Rattle.reach.specs.declared.access.Width.the-variants.{Four}
 use Rattle.decide.specs.Fetch.{fetchOf}
@@ -32,7 +31,7 @@ word-in-requires c κs =
     let start = sized .before .before .before .before in
     let a = start .args in
     let answer =
-    reached-in-parts Fetch Four (a .core .cp0) (rowsIn (a .rows .now)) _ (a .core .pc) (before .before .mode-of .ensures) (before .physical .ensures) (landed .landed .ensures) in
+    reached-in-parts Fetch Four (a .core .cp0) (a .rows) _ (a .core .pc) (before .before .mode-of .ensures) (before .physical .ensures) (landed .landed .ensures) in
     reached-room _ (start .pre) _ _ _ _ _ (sized .sizes .ensures) answer (c .before .answer .given .1)
 
 enum-known-answer-2 : tie.Need-enum-known-answer-2
@@ -47,7 +46,7 @@ returns c =
     let start = sized .before .before .before .before in
     let a = start .args in
     let answer =
-    reached-in-parts Fetch Four (a .core .cp0) (rowsIn (a .rows .now)) _ (a .core .pc) (before .before .mode-of .ensures) (before .physical .ensures) (landed .landed .ensures) in
+    reached-in-parts Fetch Four (a .core .cp0) (a .rows) _ (a .core .pc) (before .before .mode-of .ensures) (before .physical .ensures) (landed .landed .ensures) in
     rw (← sized .sizes .ensures, ← answer, c .before .before .answer .given .1, c .word-in .ensures)
 
 returns-2 : tie.Need-returns-2
@@ -59,7 +58,7 @@ returns-2 c =
     let start = sized .before .before .before .before in
     let a = start .args in
     let answer =
-    reached-in-parts Fetch Four (a .core .cp0) (rowsIn (a .rows .now)) _ (a .core .pc) (before .before .mode-of .ensures) (before .physical .ensures) (landed .landed .ensures) in
+    reached-in-parts Fetch Four (a .core .cp0) (a .rows) _ (a .core .pc) (before .before .mode-of .ensures) (before .physical .ensures) (landed .landed .ensures) in
     rw (← sized .sizes .ensures, ← answer, c .before .answer2 .given .1)
 
 pub fetch-slow-spec : {M : Type 1} → statement M

@@ -1,9 +1,8 @@
 -- `decide::step::execute` meets its contract: what is decoded asks for what there is (`intent-asks`).
 use Prim.Native.Nat.{_<_}
+use mathlib.Core.Path.{_≡_}
 use native.Mathlib.Omega.{arith}
 use lib.ListN.{length}
-use Rattle.tlb.specs.Words.{rowsIn}
-use Rattle.tlb.proofs.Words.{length-rows}
 use Rattle.decide.proofs.Asks.{intent-asks}
 use Rattle.decide.specs.Decide.{executeOf}
 use borrow.Author.Needs.{needs}
@@ -22,8 +21,8 @@ intend-requires c κs = search needs
 settle-requires : tie.Need-settle-requires
 settle-requires c κs =
     let start = c .before .before .before .before .before .before in
-    let sixteen = length-rows (start .args .rows .now) in
-    let rows : 0 < length (rowsIn (start .args .rows .now)) = omega (arith, sixteen) in
+    let sixteen : length (start .args .rows) ≡ 16 = search needs in
+    let rows : 0 < length (start .args .rows) = omega (arith, sixteen) in
     rw sixteen at
     (intent-asks _ _ (start .pre) rows _ _ (start .args .word) (c .before .before .decode .ensures) (c .before .sizes .ensures) (c .intend .ensures))
 

@@ -1,28 +1,21 @@
 -- `reach::translate::searched` meets its contract: what the search found is an entry of the table, by its law.
 use mathlib.Core.Path.{sym, _∙_}
-use Prim.Native.Nat.{_<_}
-use Rattle.tlb.proofs.Laws.{found-lowest}
-use Rattle.tlb.proofs.Words.{length-rows, row-at}
+use Rattle.tlb.proofs.Laws.{found-lowest, read-row}
 use borrow.Author.Needs.{needs}
 use Rattle.reach.proofs.translate.searched.Statement.{statement}
 use Rattle.reach.proofs.translate.searched.Tie as tie
 
-in-table : (c : tie.After-known-told) → c .before .i .given .0 .0 < 16
-in-table c =
-    let e = sym (c .before .before .before .search-in .ensures) ∙ c .before .i .given .1 in
-    rw (length-rows (c .before .before .before .before .before .args .words .now)) at (found-lowest _ _ _ e .within)
-
 sought-requires : tie.Need-sought-requires
 sought-requires c κs = search needs
 
-search-in-requires : tie.Need-search-in-requires
-search-in-requires c κs = search needs
+search-requires : tie.Need-search-requires
+search-requires c κs = search needs
 
 enum-known-i : tie.Need-enum-known-i
 enum-known-i c = search needs
 
-row-in-requires : tie.Need-row-in-requires
-row-in-requires c κs = in-table c
+read-requires : tie.Need-read-requires
+read-requires c κs = search needs
 
 by-row-requires : tie.Need-by-row-requires
 by-row-requires c κs = search needs
@@ -35,12 +28,16 @@ tlb-error-requires c κs = search needs
 
 returns : tie.Need-returns
 returns c =
+    let read = c .before in
+    let known = read .before .before in
+    let searched = known .before .before in
+    let within = found-lowest _ _ _ (sym (searched .search .ensures) ∙ known .i .given .1) .within in
     rw (
-      ← c .before .before .before .before .before .before .sought .ensures,
-      ← c .before .before .before .before .before .search-in .ensures,
-      c .before .before .before .i .given .1,
-      row-at (c .before .before .before .before .before .before .before .args .words .now) _ (in-table (c .before .before)),
-      ← c .before .row-in .ensures,
+      ← searched .before .sought .ensures,
+      ← searched .search .ensures,
+      known .i .given .1,
+      ← read-row _ _ within,
+      ← read .read .ensures,
     )
     (c .by-row .ensures)
 
@@ -49,7 +46,7 @@ returns-2 c =
     rw (
       c .tlb-error .ensures,
       ← c .before .before .before .before .sought .ensures,
-      ← c .before .before .before .search-in .ensures,
+      ← c .before .before .before .search .ensures,
       c .before .enum-told .given .1,
     )
 
@@ -58,9 +55,9 @@ searched-spec =
     tie.close
     (tie.spec
     sought-requires
-    search-in-requires
+    search-requires
     enum-known-i
-    row-in-requires
+    read-requires
     by-row-requires
     enum-told
     tlb-error-requires

@@ -19,9 +19,6 @@ register-at-requires-2 c κs = (rw (c .before .effect2 .given .1) at (c .before 
 enum-known-effect-3 : tie.Need-enum-known-effect-3
 enum-known-effect-3 c = search needs
 
-row-at-requires : tie.Need-row-at-requires
-row-at-requires c κs = rw (c .before .effect3 .given .1) at (c .before .before .before .before .pre)
-
 enum-known-effect-4 : tie.Need-enum-known-effect-4
 enum-known-effect-4 c = search needs
 
@@ -56,7 +53,7 @@ returns-2 : tie.Need-returns-2
 returns-2 c = rw (c .before .before .effect2 .given .1, c .register-at2 .ensures)
 
 returns-3 : tie.Need-returns-3
-returns-3 c = rw (c .before .before .effect3 .given .1, c .row-at .ensures)
+returns-3 c = rw (c .before .effect3 .given .1)
 
 returns-4 : tie.Need-returns-4
 returns-4 c = rw (c .before .before .effect4 .given .1, c .load-word .ensures)
@@ -88,7 +85,6 @@ saved-spec =
     enum-known-effect-2
     register-at-requires-2
     enum-known-effect-3
-    row-at-requires
     enum-known-effect-4
     cast-load-word
     load-word-requires
