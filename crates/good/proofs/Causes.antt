@@ -3,30 +3,27 @@ use Prim.{tt}
 use Prim.Native.Nat.{ℕ, _/_, _%_, _^_, _<_}
 use mathlib.Core.Path.{_≡_, refl, sym, _∙_}
 use mathlib.Core.Logic.{_≢_}
-use mathlib.Core.Bool.{Bool, true, false, not, cond, Bool·beq, _&&_}
+use mathlib.Core.Bool.{Bool, true, false, not, cond, Bool·beq}
 use native.Mathlib.Decide.{ℕ-discrete}
 use native.Mathlib.Omega.{arith}
-use borrow.Author.Tests.{not-true}
+use borrow.Author.Tests.{not-true, le-leb}
 use lib.Bits.{bitXor, xor-shr, xor-mod, xor-zero-r}
 use lib.Dec.{eqb, leb, lit<}
 use Rattle.word.specs.Map.{bit, withBit}
-use Rattle.word.proofs.Cond.{both, and-true}
+use Rattle.word.proofs.Cond.{and-true}
 use Rattle.word.proofs.Maps.{bit-told, bit-other, with-small}
 use Rattle.word.proofs.Within.{BitsIn}
 use Rattle.cp0.specs.Entry.{excCode}
 use Rattle.cp0.specs.Interrupt.{lineOf}
-use Rattle.printer.specs.Rules.{within}
 use Rattle.printer.specs.Cause.{shownOf}
 use Rattle.rules.specs.Rules.{ip, causeKeeps}
 use Rattle.rules.proofs.Masks.{within-bits, bits-within}
-
-abbrev mask : ℕ
-mask = 0xB000FF7C
+use Rattle.proper.proofs.Causes.{causeBits, cause-rules}
 
 -- all that the rules say of Cause but of IP[6]
 pub record Steady (cause : ℕ) : Type 0 where
   pub word : cause < 2 ^ 32
-  pub masked : BitsIn 32 mask cause
+  pub masked : BitsIn 32 causeBits cause
   pub code : leb (excCode cause) 12 ≡ true
   pub off₃ : bit 11 cause ≡ false
   pub off₄ : bit 12 cause ≡ false
@@ -35,23 +32,15 @@ pub record Steady (cause : ℕ) : Type 0 where
 
 pub steady : (cause pending : ℕ) → cause < 2 ^ 32 → causeKeeps cause pending ≡ true → Steady cause
 steady cause pending word e =
-    let masked = within mask cause in
-    let code = leb (excCode cause) 12 in
-    let shown = Bool·beq (ip 6 cause) (not (eqb pending 0)) in
-    let h₇ = both (masked && code && shown && not (ip 3 cause) && not (ip 4 cause) && not (ip 5 cause)) (not (ip 7 cause)) e in
-    let h₅ = both (masked && code && shown && not (ip 3 cause) && not (ip 4 cause)) (not (ip 5 cause)) (h₇ .0) in
-    let h₄ = both (masked && code && shown && not (ip 3 cause)) (not (ip 4 cause)) (h₅ .0) in
-    let h₃ = both (masked && code && shown) (not (ip 3 cause)) (h₄ .0) in
-    let h₂ = both (masked && code) shown (h₃ .0) in
-    let h₁ = both masked code (h₂ .0) in
+    let h = cause-rules cause pending e in
     record {
       word = word;
-      masked = within-bits mask cause (lit< tt) (h₁ .0);
-      code = h₁ .1;
-      off₃ = not-true (ip 3 cause) (h₃ .1);
-      off₄ = not-true (ip 4 cause) (h₄ .1);
-      off₅ = not-true (ip 5 cause) (h₅ .1);
-      off₇ = not-true (ip 7 cause) (h₇ .1);
+      masked = within-bits causeBits cause (lit< tt) (h .inside);
+      code = le-leb (excCode cause) 12 (h .code);
+      off₃ = not-true (ip 3 cause) (h .third);
+      off₄ = not-true (ip 4 cause) (h .fourth);
+      off₅ = not-true (ip 5 cause) (h .fifth);
+      off₇ = not-true (ip 7 cause) (h .seventh);
     }
 
 -- a bit outside ExcCode leaves it
@@ -64,7 +53,7 @@ code-kept n on cause outside = go (Bool·beq (bit n cause) on)
     go false = rw (xor-shr cause (2 ^ n) 2, xor-mod (cause / 2 ^ 2) (2 ^ n / 2 ^ 2) 5, outside, xor-zero-r (cause / 2 ^ 2 % 2 ^ 5))
 
 -- one bit of the mask anew, and none of IP[3], [4], [5], [7]
-bit-steady : (n : ℕ) (on : Bool) {cause : ℕ} → n < 32 → bit n mask ≡ true → 2 ^ n / 2 ^ 2 % 2 ^ 5 ≡ 0 →
+bit-steady : (n : ℕ) (on : Bool) {cause : ℕ} → n < 32 → bit n causeBits ≡ true → 2 ^ n / 2 ^ 2 % 2 ^ 5 ≡ 0 →
     11 ≢ n → 12 ≢ n → 13 ≢ n → 15 ≢ n → Steady cause → Steady (withBit n on cause)
 bit-steady n on {cause} low inside outside a₃ a₄ a₅ a₇ s = record {
   word = with-small n 32 on cause low (s .word);
@@ -76,7 +65,7 @@ bit-steady n on {cause} low inside outside a₃ a₄ a₅ a₇ s = record {
   off₇ = bit-other n 15 on cause a₇ ∙ s .off₇;
 }
   where
-    by : (k : ℕ) → k < 32 → bit k (withBit n on cause) ≡ true → Dec (k ≡ n) → bit k mask ≡ true
+    by : (k : ℕ) → k < 32 → bit k (withBit n on cause) ≡ true → Dec (k ≡ n) → bit k causeBits ≡ true
     by k h is (yes e) = rw e inside
     by k h is (no apart) = s .masked k h (sym (bit-other n k on cause apart) ∙ is)
 
@@ -105,7 +94,7 @@ shown-keeps pending {cause} s =
     (and-true
     (and-true
     (and-true
-    (and-true (and-true (bits-within mask (shownOf pending cause) (lit< tt) (t .word) (t .masked)) (t .code))
+    (and-true (and-true (bits-within causeBits (shownOf pending cause) (lit< tt) (t .word) (t .masked)) (t .code))
     (rw told (same (not (eqb pending 0)))))
     (rw (t .off₃)))
     (rw (t .off₄)))

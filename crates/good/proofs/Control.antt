@@ -1,22 +1,22 @@
 -- CP0 keeps its rules where Random and Cause alone are anew, and the core where CP0, HI and LO or the PC pair are.
 use Prim.Native.Nat.{ℕ, _%_, _^_, _<_}
 use mathlib.Core.Path.{_≡_}
-use mathlib.Core.Bool.{true, _&&_}
+use mathlib.Core.Bool.{true}
 use native.Mathlib.Omega.{arith}
 use borrow.Author.Tests.{leb-true, le-leb, eq-eqb}
 use lib.Dec.{eqb, leb}
 use Rattle.word.proofs.Cond.{both, and-true}
 use Rattle.cp0.specs.Random.{field, topEntry, randomOf}
-use Rattle.cp0.specs.Written.{statusMask}
 use Rattle.cp0.specs.declared.registers.Cp0.{Cp0}
 use Rattle.cp0.proofs.Randoms.{InTable, random-stays}
 use Rattle.printer.specs.Cause.{shownOf}
-use Rattle.printer.specs.Rules.{between, within}
+use Rattle.printer.specs.Rules.{between}
 use Rattle.state.specs.Layout.{cp0Words, coreWords}
 use Rattle.state.specs.declared.machine.Core.{Core}
-use Rattle.rules.specs.Rules.{causeKeeps, randomKeeps, entryKeeps, cp0Keeps}
+use Rattle.rules.specs.Rules.{randomKeeps}
 use Rattle.step.specs.Apply.{withHiLo, withCp0, withPc}
 use Rattle.proper.specs.Proper.{ControlGood}
+use Rattle.proper.proofs.Registers.{parts}
 use Rattle.good.proofs.Belows.{each-below, below-each}
 use Rattle.good.proofs.Causes.{Steady, steady, shown-word, shown-keeps}
 use Rattle.good.proofs.Sound.{CoreSound}
@@ -40,27 +40,7 @@ random-good random r =
           (and-true (le-leb 1 (field next) (now .0)) (le-leb (field next) topEntry (now .1)));
     }
 
--- ---- CP0, rule by rule
-
-pub record Rules (p : Cp0) (pending : ℕ) : Type 0 where
-  pub status : within statusMask (p .status) ≡ true
-  pub cause : causeKeeps (p .cause) pending ≡ true
-  pub index : within 0x80003F00 (p .index) ≡ true
-  pub random : randomKeeps (p .random) ≡ true
-  pub entry : entryKeeps (p .«entry_hi») (p .«entry_lo») ≡ true
-
-module _ (p : Cp0) (pending : ℕ) where
-  pub rules : cp0Keeps p pending ≡ true → Rules p pending
-  rules e =
-      let status = within statusMask (p .status) in
-      let cause = causeKeeps (p .cause) pending in
-      let index = within 0x80003F00 (p .index) in
-      let random = randomKeeps (p .random) in
-      let h₄ = both (status && cause && index && random) (entryKeeps (p .«entry_hi») (p .«entry_lo»)) e in
-      let h₃ = both (status && cause && index) random (h₄ .0) in
-      let h₂ = both (status && cause) index (h₃ .0) in
-      let h₁ = both status cause (h₂ .0) in
-      record { status = h₁ .0; cause = h₁ .1; index = h₂ .1; random = h₃ .1; entry = h₄ .1 }
+-- ---- CP0
 
 -- the same CP0 but for Random and Cause
 abbrev pub lined : ℕ → ℕ → Cp0 → Cp0
@@ -78,15 +58,15 @@ lined random cause p =
 
 module _ {p : Cp0} {pending : ℕ} (g : ControlGood p pending) where
   pub cause-steady : Steady (p .cause)
-  cause-steady = steady (p .cause) pending (g .words 6 (omega arith)) (rules p pending (g .kept) .cause)
+  cause-steady = steady (p .cause) pending (g .words 6 (omega arith)) (parts p pending (g .kept) .cause)
 
   pub random-own : RandomGood (p .random)
-  random-own = record { word = g .words 1 (omega arith); kept = rules p pending (g .kept) .random }
+  random-own = record { word = g .words 1 (omega arith); kept = parts p pending (g .kept) .random }
 
   -- IP[6] shows the new map
   pub lined-good : (random next cause : ℕ) → RandomGood random → Steady cause → ControlGood (lined random (shownOf next cause) p) next
   lined-good random next cause r s =
-      let k = rules p pending (g .kept) in
+      let k = parts p pending (g .kept) in
       let old = below-each (cp0Words p) (g .words) in
       let small = shown-word next s in
       record {

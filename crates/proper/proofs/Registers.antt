@@ -37,16 +37,18 @@ pub record Good (r : ControlRegister) (pending word : ℕ) : Type 0 where
   pub small : word < 2 ^ 32
   pub kept : keepsOf r pending word ≡ true
 
-record Parts (c : Cp0) (pending : ℕ) : Type 0 where
-  index : within 0x80003F00 (c .index) ≡ true
-  random : randomKeeps (c .random) ≡ true
-  high : within entryHiMask (c .«entry_hi») ≡ true
-  low : within entryLoMask (c .«entry_lo») ≡ true
-  status : within statusMask (c .status) ≡ true
-  cause : causeKeeps (c .cause) pending ≡ true
+-- "Status within mask ..; Cause ..; Index ..; Random ..; every EntryHi .., EntryLo ..", one by one
+pub record Parts (c : Cp0) (pending : ℕ) : Type 0 where
+  pub index : within 0x80003F00 (c .index) ≡ true
+  pub random : randomKeeps (c .random) ≡ true
+  pub entry : entryKeeps (c .«entry_hi») (c .«entry_lo») ≡ true
+  pub high : within entryHiMask (c .«entry_hi») ≡ true
+  pub low : within entryLoMask (c .«entry_lo») ≡ true
+  pub status : within statusMask (c .status) ≡ true
+  pub cause : causeKeeps (c .cause) pending ≡ true
 
 module _ (c : Cp0) (pending : ℕ) where
-  parts : cp0Keeps c pending ≡ true → Parts c pending
+  pub parts : cp0Keeps c pending ≡ true → Parts c pending
   parts e =
       let s = within statusMask (c .status) in
       let k = causeKeeps (c .cause) pending in
@@ -57,7 +59,7 @@ module _ (c : Cp0) (pending : ℕ) where
       let h₃ = both (s && k) i (h₂ .0) in
       let h₄ = both s k (h₃ .0) in
       let h₅ = both (within entryHiMask (c .«entry_hi»)) (within entryLoMask (c .«entry_lo»)) (h₁ .1) in
-      record { index = h₃ .1; random = h₂ .1; high = h₅ .0; low = h₅ .1; status = h₄ .0; cause = h₄ .1 }
+      record { index = h₃ .1; random = h₂ .1; entry = h₁ .1; high = h₅ .0; low = h₅ .1; status = h₄ .0; cause = h₄ .1 }
 
   pub each-of : ControlGood c pending → (r : ControlRegister) → Good r pending (readOf r c)
   each-of g Index = record { small = g .words 0 (omega arith); kept = parts (g .kept) .index }
