@@ -4,3 +4,4 @@ pub mod Values
 pub mod Laying
 pub mod Spelling
 pub mod Numbers
+pub mod RoundTrip

@@ -1,0 +1,46 @@
+-- The digits that are written for a number write that number.
+use mathlib.Core.Path.{_≡_, refl, ap, _∙_}
+use mathlib.Core.List.{List, [], _∷_, _++_}
+use Prim.Native.Nat.{ℕ, zero, suc, _+_, _*_, _/_, _%_, _<_, _≤_, _^_}
+use native.Mathlib.Nat.{pow-zero, pow-suc, div-lt-iff-lt-mul, mod-lt, div-add-mod'}
+use native.Mathlib.Omega.{arith}
+use Rattle.text.specs.Digit.{digitOf, valueFrom, valueOf}
+use Rattle.text.specs.Spelt.{faceOf, lowOf}
+
+-- a digit's face is worth the digit
+sixteen : (d : ℕ) → d < 16 → digitOf (faceOf d) ≡ d
+unfolding digitOf faceOf
+sixteen zero h = refl
+sixteen (suc zero) h = refl
+sixteen (suc (suc zero)) h = refl
+sixteen (suc (suc (suc zero))) h = refl
+sixteen (suc (suc (suc (suc zero)))) h = refl
+sixteen (suc (suc (suc (suc (suc zero))))) h = refl
+sixteen (suc (suc (suc (suc (suc (suc zero)))))) h = refl
+sixteen (suc (suc (suc (suc (suc (suc (suc zero))))))) h = refl
+sixteen (suc (suc (suc (suc (suc (suc (suc (suc zero)))))))) h = refl
+sixteen (suc (suc (suc (suc (suc (suc (suc (suc (suc zero))))))))) h = refl
+sixteen (suc (suc (suc (suc (suc (suc (suc (suc (suc (suc zero)))))))))) h = refl
+sixteen (suc (suc (suc (suc (suc (suc (suc (suc (suc (suc (suc zero))))))))))) h = refl
+sixteen (suc (suc (suc (suc (suc (suc (suc (suc (suc (suc (suc (suc zero)))))))))))) h = refl
+sixteen (suc (suc (suc (suc (suc (suc (suc (suc (suc (suc (suc (suc (suc zero))))))))))))) h = refl
+sixteen (suc (suc (suc (suc (suc (suc (suc (suc (suc (suc (suc (suc (suc (suc zero)))))))))))))) h = refl
+sixteen (suc (suc (suc (suc (suc (suc (suc (suc (suc (suc (suc (suc (suc (suc (suc zero))))))))))))))) h = refl
+sixteen (suc (suc (suc (suc (suc (suc (suc (suc (suc (suc (suc (suc (suc (suc (suc (suc d)))))))))))))))) h = absurd (omega arith)
+
+value-append : (base v : ℕ) (s t : List ℕ) → valueFrom base v (s ++ t) ≡ valueFrom base (valueFrom base v s) t
+unfolding valueFrom
+value-append base v [] t = refl
+value-append base v (b ∷ s) t = value-append base (v * base + digitOf b) s t
+
+-- the low digits of a number that has no more write it
+pub low-value : (base : ℕ) → 1 ≤ base → base ≤ 16 → (n v : ℕ) → v < base ^ n → valueOf base (lowOf base n v) ≡ v
+unfolding lowOf valueFrom
+low-value base l h zero v k = omega (arith, pow-zero base)
+low-value base l h (suc n) v k =
+    let small : v / base < base ^ n = div-lt-iff-lt-mul l .1 (rw pow-suc at k) in
+    let digit : v % base < 16 = omega (arith, mod-lt v l) in
+    value-append base 0 (lowOf base n (v / base)) (faceOf (v % base) ∷ [])
+    ∙ ap (λ x. x * base + digitOf (faceOf (v % base))) (low-value base l h n (v / base) small)
+    ∙ ap (λ d. v / base * base + d) (sixteen (v % base) digit)
+    ∙ div-add-mod' v base
