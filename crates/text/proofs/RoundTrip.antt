@@ -1,11 +1,14 @@
 -- The digits that are written for a number write that number.
 use mathlib.Core.Path.{_≡_, refl, ap, _∙_}
+use mathlib.Core.Bool.{Bool, true, false, cond}
+use lib.Dec.{ltb}
+use borrow.Author.Tests.{lt-ltb, ltb-true}
 use mathlib.Core.List.{List, [], _∷_, _++_}
 use Prim.Native.Nat.{ℕ, zero, suc, _+_, _*_, _/_, _%_, _<_, _≤_, _^_}
-use native.Mathlib.Nat.{pow-zero, pow-suc, div-lt-iff-lt-mul, mod-lt, div-add-mod'}
+use native.Mathlib.Nat.{zero-add, pow-zero, pow-suc, div-lt-iff-lt-mul, mod-lt, div-add-mod'}
 use native.Mathlib.Omega.{arith}
 use Rattle.text.specs.Digit.{digitOf, valueFrom, valueOf}
-use Rattle.text.specs.Spelt.{faceOf, lowOf}
+use Rattle.text.specs.Spelt.{faceOf, lowOf, decimalIn}
 
 -- a digit's face is worth the digit
 sixteen : (d : ℕ) → d < 16 → digitOf (faceOf d) ≡ d
@@ -44,3 +47,21 @@ low-value base l h (suc n) v k =
     ∙ ap (λ x. x * base + digitOf (faceOf (v % base))) (low-value base l h n (v / base) small)
     ∙ ap (λ d. v / base * base + d) (sixteen (v % base) digit)
     ∙ div-add-mod' v base
+
+-- and so do those of a number in decimal
+pub decimal-value : (n v : ℕ) → v < 10 ^ suc n → valueOf 10 (decimalIn (suc n) v) ≡ v
+unfolding decimalIn valueFrom
+decimal-value zero v k = rw (lt-ltb v 10 k) (zero-add _ ∙ sixteen v (omega arith))
+decimal-value (suc n) v k =
+    let ten : 1 ≤ 10 = omega arith in
+    let small : v / 10 < 10 ^ suc n = div-lt-iff-lt-mul ten .1 (rw pow-suc at k) in
+    go (ltb v 10) refl (decimal-value n (v / 10) small)
+  where
+    go : (t : Bool) → ltb v 10 ≡ t → valueOf 10 (decimalIn (suc n) (v / 10)) ≡ v / 10
+        → valueOf 10 (cond t (faceOf v ∷ []) (decimalIn (suc n) (v / 10) ++ faceOf (v % 10) ∷ [])) ≡ v
+    go true e ih = let h : v < 10 = ltb-true v 10 e in zero-add _ ∙ sixteen v (omega arith)
+    go false e ih =
+        value-append 10 0 (decimalIn (suc n) (v / 10)) (faceOf (v % 10) ∷ [])
+        ∙ ap (λ x. x * 10 + digitOf (faceOf (v % 10))) ih
+        ∙ ap (λ d. v / 10 * 10 + d) (sixteen (v % 10) (omega arith))
+        ∙ div-add-mod' v 10
