@@ -111,8 +111,8 @@ def largest(folder):
     ok(s, "new", "ram", "4096", "paper", "65536", "journal", "65536", *SMALL[7:], folder=folder)
     assert [len(f) for f in state(s).values()] == [501, 16 << 20, 65536, 16 << 20]
     for more, status in ((b"", 0), (b"\xa5", 1), (bytes(9), 1)):
-        put(B + "/full", full + more)
-        r = run(s, "load", B + "/full", "0x20000000", folder=folder)
+        put(B + "/ram-file", full + more)
+        r = run(s, "load", B + "/ram-file", "0x20000000", folder=folder)
         assert r[0] == status and state(s)["ram"] == full, (len(more), r)
     shutil.rmtree(s)
     return 4
