@@ -26,7 +26,7 @@ use Rattle.reach.specs.declared.access.Kind.the-variants as kind
 use Rattle.tlb.specs.Index.{indexOf}
 use Rattle.tlb.specs.declared.Row.{Row}
 use Rattle.state.specs.declared.machine.Core.{Core}
-use Rattle.decide.specs.Operand.{regOf, afterOf}
+use Rattle.decide.specs.Operand.{regOf}
 use Rattle.decide.specs.Operate.{registerOf, immediateOf, summedOf}
 use Rattle.decide.specs.Branch.{linkRegister, jumpsOf}
 use Rattle.decide.specs.Control.{functionOf, controlOf}
@@ -50,16 +50,16 @@ module _ (lent : Lent) (t : List Row) where
   abbrev Asked : Intent → Type 0
   Asked i = Asks lent (length t) i
 
-  summed-asks : (sum : Added) (d next : ℕ) → d < 32 → Asked (summedOf sum d next)
-  summed-asks (Sum v) d next h = h
-  summed-asks Overflow d next h = tt
+  summed-asks : (sum : Added) (d : ℕ) → d < 32 → Asked (summedOf sum d)
+  summed-asks (Sum v) d h = h
+  summed-asks Overflow d h = tt
 
   jumps-asks : (op : JumpOp) (core : Core) (target : ℕ) → Asked (jumpsOf op core target)
   jumps-asks J core target = omega arith
   jumps-asks Jal core target = omega arith
 
-  module _ (rows : 0 < length t) (cp0 : Cp0) (regs : List ℕ) (next : ℕ) where
-    function-asks : (c : Control) → NamedControl c → Asked (functionOf cp0 regs t next c)
+  module _ (rows : 0 < length t) (cp0 : Cp0) (regs : List ℕ) where
+    function-asks : (c : Control) → NamedControl c → Asked (functionOf cp0 regs t c)
     unfolding functionOf
     function-asks Undefined h = tt
     function-asks (Mfc0 rt r) h = h
@@ -70,7 +70,7 @@ module _ (lent : Lent) (t : List Row) where
     function-asks Tlbp h = tt
     function-asks Rfe h = tt
 
-    control-asks : (c : Control) → NamedControl c → Asked (controlOf cp0 regs t next c)
+    control-asks : (c : Control) → NamedControl c → Asked (controlOf cp0 regs t c)
     unfolding controlOf
     control-asks c h = picked Asked (usableOf (cp0 .status)) _ _ (λ _. function-asks c h) (λ _. tt)
 
@@ -83,7 +83,7 @@ module _ (lent : Lent) (t : List Row) where
     intend-asks Break h = tt
     intend-asks (Shift op rd rt by) h = h
     intend-asks (ShiftBy op rd rt rs) h = h
-    intend-asks (Register op rd rs rt) h = summed-asks (registerOf op (regOf regs rs) (regOf regs rt)) rd (afterOf (core .«next_pc»)) h
+    intend-asks (Register op rd rs rt) h = summed-asks (registerOf op (regOf regs rs) (regOf regs rt)) rd h
     intend-asks (Product op rs rt) h = tt
     intend-asks (MoveFrom half rd) h = h
     intend-asks (MoveTo half rs) h = tt
@@ -92,11 +92,11 @@ module _ (lent : Lent) (t : List Row) where
     intend-asks (Jump op target) h = jumps-asks op core target
     intend-asks (Compare op rs rt offset) h = omega arith
     intend-asks (Sign op rs offset) h = link-small op
-    intend-asks (Immediate op rt rs imm) h = summed-asks (immediateOf op (regOf regs rs) imm) rt (afterOf (core .«next_pc»)) h
+    intend-asks (Immediate op rt rs imm) h = summed-asks (immediateOf op (regOf regs rs) imm) rt h
     intend-asks (LoadUpper rt imm) h = h
     intend-asks (Load op rt base offset) h = (h, reached-held lent whole kind.Load (loadWidth op) (core .cp0) t _)
     intend-asks (Store op rt base offset) h = reached-held lent whole kind.Store (storeWidth op) (core .cp0) t _
-    intend-asks (instr.Control c) h = control-asks rows (core .cp0) regs _ c h
+    intend-asks (instr.Control c) h = control-asks rows (core .cp0) regs c h
 
     pub decoded-asks : (w : ℕ) → Asked (intendOf core regs t (sizesOf lent) (decodeOf w))
     decoded-asks w = intend-asks (decodeOf w) (decoded-names w)

@@ -58,7 +58,8 @@ module _ (lent : Lent) (rows : ℕ) where
 
     settle-within : (i : Intent) → Asks lent rows i → Stays (settleOf core regs lent i)
     unfolding settleOf
-    settle-within (intent.Write d v next) small = to-register-within d _ (λ above. (above, small))
+    settle-within (intent.Write d v) small = to-register-within d _ (λ above. (above, small))
+    settle-within (intent.Branch d v next) small = to-register-within d _ (λ above. (above, small))
     settle-within (intent.HiLo hi lo) asks = tt
     settle-within (intent.Load op d va (Lands place)) asks = loads-within op d _ _ place (asks .0) (asks .1)
     settle-within (intent.Load op d va (Exception miss code)) asks = tt

@@ -13,7 +13,7 @@ use Rattle.isa.specs.declared.instr.SignOp.the-variants.{Bltz, Bgez, Bltzal, Bg
 use Rattle.state.specs.declared.machine.Core.{Core}
 use Rattle.decide.specs.Operand.{afterOf}
 use Rattle.decide.specs.declared.intent.Intent.{Intent}
-use Rattle.decide.specs.declared.intent.Intent.the-variants.{Write}
+use Rattle.decide.specs.declared.intent.Intent.the-variants.{Branch}
 
 abbrev pub compareOf : CompareOp → ℕ → ℕ → Bool
 compareOf Beq x y = eqOf x y
@@ -41,11 +41,11 @@ abbrev pub takenOf : Core → Bool → ℕ → ℕ
 takenOf core test offset = cond test (branchOf (core .pc) offset) (afterOf (core .«next_pc»))
 
 abbrev pub jumpsOf : JumpOp → Core → ℕ → Intent
-jumpsOf J core target = Write 0 0 (jumpOf (core .pc) target)
-jumpsOf Jal core target = Write 31 (linkOf (core .pc)) (jumpOf (core .pc) target)
+jumpsOf J core target = Branch 0 0 (jumpOf (core .pc) target)
+jumpsOf Jal core target = Branch 31 (linkOf (core .pc)) (jumpOf (core .pc) target)
 
 abbrev pub comparesOf : CompareOp → Core → ℕ → ℕ → ℕ → Intent
-comparesOf op core x y offset = Write 0 0 (takenOf core (compareOf op x y) offset)
+comparesOf op core x y offset = Branch 0 0 (takenOf core (compareOf op x y) offset)
 
 abbrev pub signsOf : SignOp → Core → ℕ → ℕ → Intent
-signsOf op core x offset = Write (linkRegister op) (linkOf (core .pc)) (takenOf core (signOf op x) offset)
+signsOf op core x offset = Branch (linkRegister op) (linkOf (core .pc)) (takenOf core (signOf op x) offset)

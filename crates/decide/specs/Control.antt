@@ -34,10 +34,10 @@ abbrev pub poppedWord : Cp0 → ℕ
 poppedWord cp0 = poppedOf (record { word = cp0 .status }) .word
 
 -- t is the translation table; an index is taken modulo its size
-module _ (cp0 : Cp0) (regs : List ℕ) (t : List Row) (next : ℕ) where
+module _ (cp0 : Cp0) (regs : List ℕ) (t : List Row) where
   unfoldable pub functionOf : Control → Intent
   functionOf Undefined = Trap codeRI 0
-  functionOf (Mfc0 rt r) = Write rt (readOf r cp0) next
+  functionOf (Mfc0 rt r) = Write rt (readOf r cp0)
   functionOf (Mtc0 rt r) = SetControl r (writtenWord r (regOf regs rt) cp0)
   functionOf Tlbr = SetEntry (readAt t (indexOf (cp0 .index)))
   functionOf Tlbwi = SetRow (indexOf (cp0 .index) % length t) (entryOf cp0)

@@ -43,6 +43,6 @@ immediateOf Ori x imm = Sum (oriOf x imm)
 immediateOf Xori x imm = Sum (xoriOf x imm)
 
 -- the target is kept where the sum overflows
-abbrev pub summedOf : Added → ℕ → ℕ → Intent
-summedOf (Sum v) d next = Write d v next
-summedOf Overflow d next = Trap codeOv 0
+abbrev pub summedOf : Added → ℕ → Intent
+summedOf (Sum v) d = Write d v
+summedOf Overflow d = Trap codeOv 0

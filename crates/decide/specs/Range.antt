@@ -16,7 +16,8 @@ Held lent (reached.Exception miss code) = Unit {0}
 
 -- rows is the size of the translation table
 abbrev pub Asks : Lent → ℕ → Intent → Type 0
-Asks lent rows (intent.Write d v next) = d < 32
+Asks lent rows (intent.Write d v) = d < 32
+Asks lent rows (intent.Branch d v next) = d < 32
 Asks lent rows (intent.HiLo hi lo) = Unit {0}
 Asks lent rows (intent.Load op d va answer) = (d < 32) × Held lent answer
 Asks lent rows (intent.Store op x va answer) = Held lent answer

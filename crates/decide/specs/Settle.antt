@@ -62,8 +62,12 @@ storesOf op x word (place.Execution at) = Nothing
 storesOf op x word (place.Bootstrap at) = Nothing
 storesOf op x word (place.Device at) = DeviceStore at x
 
-abbrev pub writtenOf : Core → ℕ → ℕ → ℕ → Decision
-writtenOf core d v next = record { pc = core .«next_pc»; «next_pc» = next; effect = toRegister d (Register d v) }
+abbrev pub writtenOf : ℕ → ℕ → Effect
+writtenOf d v = toRegister d (Register d v)
+
+-- a branch: next PC becomes what it says, and its link is written
+abbrev pub branchedOf : Core → ℕ → ℕ → ℕ → Decision
+branchedOf core d v next = record { pc = core .«next_pc»; «next_pc» = next; effect = writtenOf d v }
 
 abbrev pub loadedOf : Core → Lent → LoadOp → ℕ → ℕ → ℕ → Reached → Decision
 loadedOf core lent op d old va (reached.Lands place) = onOf core (loadsOf op d old (wordIn lent place) place)
@@ -75,7 +79,8 @@ storedOf core lent op x va (reached.Exception miss code) = refusedOf core code m
 
 module _ (core : Core) (regs : List ℕ) (lent : Lent) where
   unfoldable pub settleOf : Intent → Decision
-  settleOf (intent.Write d v next) = writtenOf core d v next
+  settleOf (intent.Write d v) = onOf core (writtenOf d v)
+  settleOf (intent.Branch d v next) = branchedOf core d v next
   settleOf (intent.HiLo hi lo) = onOf core (HiLo hi lo)
   settleOf (intent.Load op d va reached) = loadedOf core lent op d (regOf regs d) va reached
   settleOf (intent.Store op x va reached) = storedOf core lent op x va reached

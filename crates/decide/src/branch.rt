@@ -62,29 +62,29 @@ pub fn jumps(op: JumpOp, core: Core, target: u32) -> Intent
 {
     let to = jumps::jump(core.pc, target);
     match op {
-        JumpOp::J => Intent::Write(0, 0, to),
-        JumpOp::Jal => Intent::Write(31, jumps::link(core.pc), to),
+        JumpOp::J => Intent::Branch(0, 0, to),
+        JumpOp::Jal => Intent::Branch(31, jumps::link(core.pc), to),
     }
 }
 
 // JALR: the link goes to rd.
 pub fn jump_link(d: u32, s: u32, core: Core, regs: &[u32; 32]) -> Intent
-    ensures { λ r. ⌜ r ≡ Intent.Write d (linkOf (core .pc)) (regOf (now (regs .entry)) s) ⌝ }
+    ensures { λ r. ⌜ r ≡ Intent.Branch d (linkOf (core .pc)) (regOf (now (regs .entry)) s) ⌝ }
 {
     let to = reg(regs, s);
-    Intent::Write(d, jumps::link(core.pc), to)
+    Intent::Branch(d, jumps::link(core.pc), to)
 }
 
 pub fn compares(op: CompareOp, s: u32, t: u32, offset: u32, core: Core, regs: &[u32; 32]) -> Intent
     ensures { λ r. ⌜ r ≡ comparesOf op core (regOf (now (regs .entry)) s) (regOf (now (regs .entry)) t) offset ⌝ }
 {
     let test = compare(op, reg(regs, s), reg(regs, t));
-    Intent::Write(0, 0, taken(core, test, offset))
+    Intent::Branch(0, 0, taken(core, test, offset))
 }
 
 pub fn signs(op: SignOp, s: u32, offset: u32, core: Core, regs: &[u32; 32]) -> Intent
     ensures { λ r. ⌜ r ≡ signsOf op core (regOf (now (regs .entry)) s) offset ⌝ }
 {
     let next = taken(core, sign(op, reg(regs, s)), offset);
-    Intent::Write(link_register(op), jumps::link(core.pc), next)
+    Intent::Branch(link_register(op), jumps::link(core.pc), next)
 }

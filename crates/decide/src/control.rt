@@ -38,12 +38,12 @@ fn popped(cp0: Cp0) -> u32
     after.word
 }
 
-fn function(control: Control, cp0: Cp0, regs: &[u32; 32], rows: [Row; 16], next: u32) -> Intent
-    ensures { λ r. ⌜ r ≡ functionOf cp0 (now (regs .entry)) rows next control ⌝ }
+fn function(control: Control, cp0: Cp0, regs: &[u32; 32], rows: [Row; 16]) -> Intent
+    ensures { λ r. ⌜ r ≡ functionOf cp0 (now (regs .entry)) rows control ⌝ }
 {
     match control {
         Control::Undefined => Intent::Trap(RI, 0),
-        Control::Mfc0(rt, r) => Intent::Write(rt, registers::read(cp0, r), next),
+        Control::Mfc0(rt, r) => Intent::Write(rt, registers::read(cp0, r)),
         Control::Mtc0(rt, r) => Intent::SetControl(r, written(cp0, r, reg(regs, rt))),
         Control::Tlbr => Intent::SetEntry(tlb::read(rows, tlb::index(cp0.index))),
         Control::Tlbwi => Intent::SetRow((tlb::index(cp0.index) % 16) as u32, entry(cp0)),
@@ -53,11 +53,11 @@ fn function(control: Control, cp0: Cp0, regs: &[u32; 32], rows: [Row; 16], next:
     }
 }
 
-pub fn control(control: Control, cp0: Cp0, regs: &[u32; 32], rows: [Row; 16], next: u32) -> Intent
-    ensures { λ r. ⌜ r ≡ controlOf cp0 (now (regs .entry)) rows next control ⌝ }
+pub fn control(control: Control, cp0: Cp0, regs: &[u32; 32], rows: [Row; 16]) -> Intent
+    ensures { λ r. ⌜ r ≡ controlOf cp0 (now (regs .entry)) rows control ⌝ }
 {
     if usable(cp0.status) {
-        return function(control, cp0, regs, rows, next);
+        return function(control, cp0, regs, rows);
     }
     Intent::Trap(CPU, 0)
 }

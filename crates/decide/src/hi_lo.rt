@@ -61,10 +61,10 @@ pub fn product(op: ProductOp, s: u32, t: u32, core: Core, regs: &[u32; 32]) -> I
     both(multiplied(op, reg(regs, s), reg(regs, t), kept(core)))
 }
 
-pub fn moved_from(which: instr::HiLo, d: u32, core: Core, next: u32) -> Intent
-    ensures { λ r. ⌜ r ≡ Intent.Write d (halfOf which (keptOf core)) next ⌝ }
+pub fn moved_from(which: instr::HiLo, d: u32, core: Core) -> Intent
+    ensures { λ r. ⌜ r ≡ Intent.Write d (halfOf which (keptOf core)) ⌝ }
 {
-    Intent::Write(d, half(which, kept(core)), next)
+    Intent::Write(d, half(which, kept(core)))
 }
 
 pub fn moved_to(which: instr::HiLo, s: u32, core: Core, regs: &[u32; 32]) -> Intent

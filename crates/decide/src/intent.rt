@@ -6,7 +6,8 @@ use reach::Reached;
 use tlb::Row;
 
 pub enum Intent {
-    Write(u32, u32, u32), // register (0: none), its value, the next PC
+    Write(u32, u32), // register (0: none), its value
+    Branch(u32, u32, u32), // the link's register (0: none), its value, the next PC
     HiLo(u32, u32),
     Load(LoadOp, u32, u32, Reached), // rt, the virtual address, its answer
     Store(StoreOp, u32, u32, Reached), // the value of rt, the virtual address, its answer

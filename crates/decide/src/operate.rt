@@ -54,35 +54,35 @@ fn by_immediate(op: ImmediateOp, x: u32, imm: u32) -> Added
     }
 }
 
-fn summed(sum: Added, d: u32, next: u32) -> Intent
-    ensures { λ r. ⌜ r ≡ summedOf sum d next ⌝ }
+fn summed(sum: Added, d: u32) -> Intent
+    ensures { λ r. ⌜ r ≡ summedOf sum d ⌝ }
 {
     match sum {
-        Added::Sum(v) => Intent::Write(d, v, next),
+        Added::Sum(v) => Intent::Write(d, v),
         Added::Overflow => Intent::Trap(OV, 0),
     }
 }
 
-pub fn shift(op: ShiftOp, d: u32, t: u32, by: u32, regs: &[u32; 32], next: u32) -> Intent
-    ensures { λ r. ⌜ r ≡ Intent.Write d (shiftOf op (regOf (now (regs .entry)) t) by) next ⌝ }
+pub fn shift(op: ShiftOp, d: u32, t: u32, by: u32, regs: &[u32; 32]) -> Intent
+    ensures { λ r. ⌜ r ≡ Intent.Write d (shiftOf op (regOf (now (regs .entry)) t) by) ⌝ }
 {
-    Intent::Write(d, shifted(op, reg(regs, t), by), next)
+    Intent::Write(d, shifted(op, reg(regs, t), by))
 }
 
-pub fn shift_by(op: ShiftOp, d: u32, t: u32, s: u32, regs: &[u32; 32], next: u32) -> Intent
-    ensures { λ r. ⌜ r ≡ Intent.Write d (shiftOf op (regOf (now (regs .entry)) t) (regOf (now (regs .entry)) s)) next ⌝ }
+pub fn shift_by(op: ShiftOp, d: u32, t: u32, s: u32, regs: &[u32; 32]) -> Intent
+    ensures { λ r. ⌜ r ≡ Intent.Write d (shiftOf op (regOf (now (regs .entry)) t) (regOf (now (regs .entry)) s)) ⌝ }
 {
-    Intent::Write(d, shifted(op, reg(regs, t), reg(regs, s)), next)
+    Intent::Write(d, shifted(op, reg(regs, t), reg(regs, s)))
 }
 
-pub fn register(op: RegisterOp, d: u32, s: u32, t: u32, regs: &[u32; 32], next: u32) -> Intent
-    ensures { λ r. ⌜ r ≡ summedOf (registerOf op (regOf (now (regs .entry)) s) (regOf (now (regs .entry)) t)) d next ⌝ }
+pub fn register(op: RegisterOp, d: u32, s: u32, t: u32, regs: &[u32; 32]) -> Intent
+    ensures { λ r. ⌜ r ≡ summedOf (registerOf op (regOf (now (regs .entry)) s) (regOf (now (regs .entry)) t)) d ⌝ }
 {
-    summed(by_register(op, reg(regs, s), reg(regs, t)), d, next)
+    summed(by_register(op, reg(regs, s), reg(regs, t)), d)
 }
 
-pub fn immediate(op: ImmediateOp, t: u32, s: u32, imm: u32, regs: &[u32; 32], next: u32) -> Intent
-    ensures { λ r. ⌜ r ≡ summedOf (immediateOf op (regOf (now (regs .entry)) s) imm) t next ⌝ }
+pub fn immediate(op: ImmediateOp, t: u32, s: u32, imm: u32, regs: &[u32; 32]) -> Intent
+    ensures { λ r. ⌜ r ≡ summedOf (immediateOf op (regOf (now (regs .entry)) s) imm) t ⌝ }
 {
-    summed(by_immediate(op, reg(regs, s), imm), t, next)
+    summed(by_immediate(op, reg(regs, s), imm), t)
 }

@@ -14,6 +14,7 @@ ghost use Rattle.decide.specs.Settle.{
   loadedOf,
   storedOf,
   writtenOf,
+  branchedOf,
   settleOf,
 };
 ghost use Rattle.decide.specs.Range.{Held, Asks};
@@ -164,13 +165,19 @@ fn stored(
     }
 }
 
-fn written(core: Core, d: u32, v: u32, next: u32) -> Decision
-    ensures { λ r. ⌜ r ≡ writtenOf core d v next ⌝ }
+fn written(d: u32, v: u32) -> Effect
+    ensures { λ r. ⌜ r ≡ writtenOf d v ⌝ }
+{
+    to_register(d, Effect::Register(d, v))
+}
+
+fn branched(core: Core, d: u32, v: u32, next: u32) -> Decision
+    ensures { λ r. ⌜ r ≡ branchedOf core d v next ⌝ }
 {
     Decision {
         pc: core.next_pc,
         next_pc: next,
-        effect: to_register(d, Effect::Register(d, v)),
+        effect: written(d, v),
     }
 }
 
@@ -186,7 +193,8 @@ pub fn settle(
     ensures { λ r. ⌜ r ≡ settleOf core (now (regs .entry)) (lentOf (now (execution .entry)) (now (bootstrap .entry)) (now (ram .entry))) intent ⌝ }
 {
     match intent {
-        Intent::Write(d, v, next) => written(core, d, v, next),
+        Intent::Write(d, v) => on(core, written(d, v)),
+        Intent::Branch(d, v, next) => branched(core, d, v, next),
         Intent::HiLo(hi, lo) => on(core, Effect::HiLo(hi, lo)),
         Intent::Load(op, d, va, to) => loaded(op, d, va, to, core, regs, execution, bootstrap, ram),
         Intent::Store(op, x, va, to) => stored(op, x, va, to, core, execution, bootstrap, ram),

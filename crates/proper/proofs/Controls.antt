@@ -27,7 +27,7 @@ use Rattle.printer.proofs.Each.{each-holds}
 use Rattle.decide.specs.Control.{writtenWord, poppedWord, functionOf, controlOf}
 use Rattle.decide.specs.Operand.{regOf}
 use Rattle.decide.specs.declared.intent.Intent.{Intent}
-use Rattle.decide.specs.declared.intent.Intent.the-variants.{Write, HiLo, Load, Store, SetControl, SetEntry, SetRow, Trap}
+use Rattle.decide.specs.declared.intent.Intent.the-variants.{Write, Branch, HiLo, Load, Store, SetControl, SetEntry, SetRow, Trap}
 use Rattle.proper.specs.Proper.{ControlGood, RowGood}
 use Rattle.proper.proofs.Coded.{Coded}
 use Rattle.proper.proofs.Entered.{popped-good}
@@ -36,7 +36,8 @@ use Rattle.proper.proofs.Registers.{Good, each-of, with-good, entry-row
 
 -- what is written are words that keep the rules, and what is raised has a code
 abbrev pub Means : Cp0 → ℕ → Intent → Type 0
-Means c pending (Write d v next) = (v < 2 ^ 32) × (next < 2 ^ 32)
+Means c pending (Write d v) = v < 2 ^ 32
+Means c pending (Branch d v next) = (v < 2 ^ 32) × (next < 2 ^ 32)
 Means c pending (HiLo hi lo) = (hi < 2 ^ 32) × (lo < 2 ^ 32)
 Means c pending (Load op d va answer) = (va < 2 ^ 32) × Coded answer
 Means c pending (Store op x va answer) = (x < 2 ^ 32) × (va < 2 ^ 32) × Coded answer
@@ -59,11 +60,11 @@ module _ (c : Cp0) (pending : ℕ) (g : ControlGood c pending) where
   written-good r word =
       rw (read-it r (overlaidOf (maskOf r) (readOf r c) word) c) (overlaid-good pending (readOf r c) word r (each-of c pending g r))
 
-  module _ (regs : List ℕ) (t : List Row) (some : 0 < length t) (rows : (i : ℕ) → i < length t → RowGood (getD t i noRow)) (next : ℕ) (fits : next < 2 ^ 32) where
-    function-means : (f : Control) → Means c pending (functionOf c regs t next f)
+  module _ (regs : List ℕ) (t : List Row) (some : 0 < length t) (rows : (i : ℕ) → i < length t → RowGood (getD t i noRow)) where
+    function-means : (f : Control) → Means c pending (functionOf c regs t f)
     unfolding functionOf
     function-means Undefined = omega arith
-    function-means (Mfc0 rt r) = (each-of c pending g r .small, fits)
+    function-means (Mfc0 rt r) = each-of c pending g r .small
     function-means (Mtc0 rt r) = with-good c pending g r (writtenWord r (regOf regs rt) c) (written-good r (regOf regs rt))
     function-means Tlbr =
         with-entry-good c pending (readAt t (indexOf (c .index))) g (rows (indexOf (c .index) % length t) (mod-lt (indexOf (c .index)) some))
@@ -72,6 +73,6 @@ module _ (c : Cp0) (pending : ℕ) (g : ControlGood c pending) where
     function-means Tlbp = with-good c pending g Index (probedOf (foundIn (c .«entry_hi») t)) (probed-good pending (foundIn (c .«entry_hi») t))
     function-means Rfe = with-good c pending g Status (poppedWord c) (popped-good pending (c .status) (each-of c pending g Status))
 
-    pub control-means : (f : Control) → Means c pending (controlOf c regs t next f)
+    pub control-means : (f : Control) → Means c pending (controlOf c regs t f)
     unfolding controlOf
     control-means f = picked (Means c pending) (usableOf (c .status)) _ _ (λ _. function-means f) (λ _. omega arith)

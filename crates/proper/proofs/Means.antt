@@ -25,7 +25,7 @@ use Rattle.decide.specs.Branch.{compareOf, signOf, takenOf, jumpsOf}
 use Rattle.decide.specs.HiLo.{keptOf}
 use Rattle.decide.specs.Intend.{intendOf}
 use Rattle.decide.specs.Lent.{Lent}
-use Rattle.decide.specs.Operand.{regOf, afterOf}
+use Rattle.decide.specs.Operand.{regOf}
 use Rattle.decide.specs.Operate.{registerOf, immediateOf, summedOf}
 use Rattle.decide.specs.declared.intent.Intent.{Intent}
 use Rattle.proper.specs.Proper.{Sources}
@@ -41,18 +41,12 @@ module _ (core : Core) (pending : ℕ) where
   abbrev Meant : Intent → Type 0
   Meant i = Means (core .cp0) pending i
 
-  abbrev next : ℕ
-  next = afterOf (core .«next_pc»)
-
-  next-word : next < 2 ^ 32
-  next-word = after-small (core .«next_pc»)
-
-  summed-means : (sum : Added) (d : ℕ) → Summed sum → Meant (summedOf sum d next)
-  summed-means (Sum v) d h = (h, next-word)
+  summed-means : (sum : Added) (d : ℕ) → Summed sum → Meant (summedOf sum d)
+  summed-means (Sum v) d h = h
   summed-means Overflow d h = omega arith
 
   taken-word : (test : Bool) (offset : ℕ) → takenOf core test offset < 2 ^ 32
-  taken-word test offset = picked (λ x. x < 2 ^ 32) test _ _ (λ _. branch-word (core .pc) offset) (λ _. next-word)
+  taken-word test offset = picked (λ x. x < 2 ^ 32) test _ _ (λ _. branch-word (core .pc) offset) (λ _. after-small (core .«next_pc»))
 
   jumps-means : (op : JumpOp) (target : ℕ) → Meant (jumpsOf op core target)
   jumps-means J target = (omega arith, jump-word (core .pc) target)
@@ -74,12 +68,12 @@ module _ (core : Core) (pending : ℕ) where
     intend-means (Unusable z) = omega arith
     intend-means Syscall = omega arith
     intend-means Break = omega arith
-    intend-means (Shift op rd rt by) = (shift-word (regOf regs rt) (reg rt) op by, next-word)
-    intend-means (ShiftBy op rd rt rs) = (shift-word (regOf regs rt) (reg rt) op (regOf regs rs), next-word)
+    intend-means (Shift op rd rt by) = shift-word (regOf regs rt) (reg rt) op by
+    intend-means (ShiftBy op rd rt rs) = shift-word (regOf regs rt) (reg rt) op (regOf regs rs)
     intend-means (Register op rd rs rt) =
         summed-means (registerOf op (regOf regs rs) (regOf regs rt)) rd (register-sum (regOf regs rs) (reg rs) (regOf regs rt) (reg rt) op)
     intend-means (Product op rs rt) = hi-lo (product-words (regOf regs rs) (reg rs) (regOf regs rt) (reg rt) (keptOf core) halves op)
-    intend-means (MoveFrom half rd) = (half-word half (keptOf core) halves, next-word)
+    intend-means (MoveFrom half rd) = half-word half (keptOf core) halves
     intend-means (MoveTo half rs) = hi-lo (with-half-words (regOf regs rs) (reg rs) (keptOf core) halves half)
     intend-means (JumpRegister rs) = (omega arith, reg rs)
     intend-means (JumpLinkRegister rd rs) = (link-word (core .pc), reg rs)
@@ -87,9 +81,9 @@ module _ (core : Core) (pending : ℕ) where
     intend-means (Compare op rs rt offset) = (omega arith, taken-word (compareOf op (regOf regs rs) (regOf regs rt)) offset)
     intend-means (Sign op rs offset) = (link-word (core .pc), taken-word (signOf op (regOf regs rs)) offset)
     intend-means (Immediate op rt rs imm) = summed-means (immediateOf op (regOf regs rs) imm) rt (immediate-sum (regOf regs rs) (reg rs) op imm)
-    intend-means (LoadUpper rt imm) = (lui-word imm, next-word)
+    intend-means (LoadUpper rt imm) = lui-word imm
     intend-means (Load op rt base offset) =
         (address-word (regOf regs base) offset, reached-coded kind.Load (loadWidth op) (core .cp0) t sizes _)
     intend-means (Store op rt base offset) =
         (reg rt, address-word (regOf regs base) offset, reached-coded kind.Store (storeWidth op) (core .cp0) t sizes _)
-    intend-means (instr.Control f) = control-means (core .cp0) pending (s .control) regs t some (s .rows) next next-word f
+    intend-means (instr.Control f) = control-means (core .cp0) pending (s .control) regs t some (s .rows) f

@@ -18,7 +18,7 @@ use Rattle.reach.specs.declared.Reached.the-variants.{Lands, Exception}
 use Rattle.state.specs.declared.machine.Core.{Core}
 use Rattle.decide.specs.Lent.{Lent, wordIn}
 use Rattle.decide.specs.Operand.{regOf}
-use Rattle.decide.specs.Settle.{onOf, raisedOf, refusedOf, trappedOf, toRegister, loadsOf, storesOf, settleOf}
+use Rattle.decide.specs.Settle.{onOf, raisedOf, refusedOf, trappedOf, toRegister, loadsOf, storesOf, settleOf, writtenOf}
 use Rattle.decide.specs.declared.intent.Intent.{Intent}
 use Rattle.decide.specs.declared.intent.Intent.the-variants as intent
 use Rattle.decide.specs.declared.effect.Effect.{Effect}
@@ -83,7 +83,8 @@ module _ (core : Core) (pending : ℕ) (regs : List ℕ) (t : List Row) (lent : 
 
   pub settle-proper : (i : Intent) → Means (core .cp0) pending i → Proper core pending (settleOf core regs lent i)
   unfolding settleOf
-  settle-proper (intent.Write d v next) h = record { pc = next-word; next = h .1; leaves = to-register-leaves core pending d _ (h .0) }
+  settle-proper (intent.Write d v) h = on-proper (writtenOf d v) (to-register-leaves core pending d _ h)
+  settle-proper (intent.Branch d v next) h = record { pc = next-word; next = h .1; leaves = to-register-leaves core pending d _ (h .0) }
   settle-proper (intent.HiLo hi lo) h = on-proper (effect.HiLo hi lo) h
   settle-proper (intent.Load op d va (Lands place)) h =
       on-proper (loadsOf op d (regOf regs d) (wordIn lent place) place) (loads-leaves core pending op d (regOf regs d) (wordIn lent place) place (word-in-small lent bytes place))

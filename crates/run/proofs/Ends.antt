@@ -3,7 +3,7 @@ use Prim.Native.Nat.{ℕ}
 use mathlib.Core.Path.{_≡_, refl, sym, ap, _∙_}
 use mathlib.Core.Bool.{Bool}
 use lib.ListN.{length}
-use Rattle.ring.specs.Run.{Config, Ran, ended}
+use Rattle.ring.specs.Run.{Config, ended}
 use Rattle.ring.specs.Run as ring
 use Rattle.journal.specs.Journal.{slotsOf}
 use Rattle.printer.specs.Tick.{anyBusy}
@@ -17,7 +17,6 @@ use Rattle.run.specs.Run.{forward, reasonOf, Fits, RunIs}
 use Rattle.run.specs.Run as run
 use Rattle.run.specs.Spin.{partsOf, machineOf, configOf, Ready, SpinIs}
 use Rattle.run.specs.declared.Spun.{Spun}
-use Rattle.run.specs.declared.Outcome.{Outcome}
 
 module _ (m : Machine) (eight : length (m .board .line .printers) ≡ 8) (sixteen : length (m .cpu .tlb) ≡ 16) where
   opened-config : (roms : Roms) (b : Buffers) → configOf roms (m .board .settings) (partsOf m) b ≡ run.configOf roms m (b .ram) (b .paper) (b .journal)

@@ -1,6 +1,6 @@
 -- `run::spin` meets its contract: at the loop's head the run from the start is the run from here, `steps` later. What a turn's calls ensure is one step (`turned-is`).
 -- The arms differ in what they know of the effect; `again` and `ends` take each of them from the turn's statement.
-use Prim.Native.Nat.{ℕ, _≤_, _<_, _+_, _-_}
+use Prim.Native.Nat.{_≤_, _<_, _+_, _-_}
 use mathlib.Core.Path.{_≡_, _∙_, refl, sym, ap}
 use mathlib.Core.Bool.{true, false, _&&_}
 use mathlib.Core.List.{List}

@@ -39,8 +39,8 @@ enum-told-3 c = search needs
 index-requires-2 : tie.Need-index-requires-2
 index-requires-2 c κs = search needs
 
-cast-t18 : tie.Need-cast-t18
-cast-t18 c = search needs
+cast-t17 : tie.Need-cast-t17
+cast-t17 c = search needs
 
 entry-requires : tie.Need-entry-requires
 entry-requires c κs = search needs
@@ -51,8 +51,8 @@ enum-told-4 c = search needs
 index-requires-3 : tie.Need-index-requires-3
 index-requires-3 c κs = search needs
 
-cast-t22 : tie.Need-cast-t22
-cast-t22 c = search needs
+cast-t21 : tie.Need-cast-t21
+cast-t21 c = search needs
 
 entry-requires-2 : tie.Need-entry-requires-2
 entry-requires-2 c κs = search needs
@@ -116,11 +116,11 @@ function-spec =
     read-requires-2
     enum-told-3
     index-requires-2
-    cast-t18
+    cast-t17
     entry-requires
     enum-told-4
     index-requires-3
-    cast-t22
+    cast-t21
     entry-requires-2
     enum-told-5
     probe-requires

@@ -4,9 +4,6 @@ use borrow.Author.Needs.{needs}
 use Rattle.decide.proofs.intend.intend.Statement.{statement}
 use Rattle.decide.proofs.intend.intend.Tie as tie
 
-after-requires : tie.Need-after-requires
-after-requires c κs = search needs
-
 enum-told : tie.Need-enum-told
 enum-told c = search needs
 
@@ -133,15 +130,15 @@ returns-4 c = rw (c .enum-told3 .given .1)
 
 returns-5 : tie.Need-returns-5
 unfolding intendOf
-returns-5 c = rw (c .before .before .instr2 .given .1, c .shift .ensures, c .before .before .before .before .before .after .ensures)
+returns-5 c = rw (c .before .before .instr2 .given .1, c .shift .ensures)
 
 returns-6 : tie.Need-returns-6
 unfolding intendOf
-returns-6 c = rw (c .before .before .instr3 .given .1, c .shift-by .ensures, c .before .before .before .before .before .after .ensures)
+returns-6 c = rw (c .before .before .instr3 .given .1, c .shift-by .ensures)
 
 returns-7 : tie.Need-returns-7
 unfolding intendOf
-returns-7 c = rw (c .before .before .instr4 .given .1, c .register .ensures, c .before .before .before .before .before .after .ensures)
+returns-7 c = rw (c .before .before .instr4 .given .1, c .register .ensures)
 
 returns-8 : tie.Need-returns-8
 unfolding intendOf
@@ -149,7 +146,7 @@ returns-8 c = rw (c .before .before .instr5 .given .1, c .product .ensures)
 
 returns-9 : tie.Need-returns-9
 unfolding intendOf
-returns-9 c = rw (c .before .before .instr6 .given .1, c .moved-from .ensures, c .before .before .before .before .before .after .ensures)
+returns-9 c = rw (c .before .before .instr6 .given .1, c .moved-from .ensures)
 
 returns-10 : tie.Need-returns-10
 unfolding intendOf
@@ -177,11 +174,11 @@ returns-15 c = rw (c .before .before .instr12 .given .1, c .signs .ensures)
 
 returns-16 : tie.Need-returns-16
 unfolding intendOf
-returns-16 c = rw (c .before .before .instr13 .given .1, c .immediate .ensures, c .before .before .before .before .before .after .ensures)
+returns-16 c = rw (c .before .before .instr13 .given .1, c .immediate .ensures)
 
 returns-17 : tie.Need-returns-17
 unfolding intendOf
-returns-17 c = rw (c .before .before .instr14 .given .1, c .lui .ensures, c .before .before .before .before .before .after .ensures)
+returns-17 c = rw (c .before .before .instr14 .given .1, c .lui .ensures)
 
 returns-18 : tie.Need-returns-18
 unfolding intendOf
@@ -193,13 +190,12 @@ returns-19 c = rw (c .before .before .instr16 .given .1, c .store .ensures)
 
 returns-20 : tie.Need-returns-20
 unfolding intendOf
-returns-20 c = rw (c .before .before .instr17 .given .1, c .control .ensures, c .before .before .before .before .before .after .ensures)
+returns-20 c = rw (c .before .before .instr17 .given .1, c .control .ensures)
 
 pub intend-spec : {M : Type 1} → statement M
 intend-spec =
     tie.close
     (tie.spec
-    after-requires
     enum-told
     enum-known-instr
     enum-told-2

@@ -1,5 +1,4 @@
 -- `step::saved::saved` meets its contract.
-use native.Mathlib.Omega.{arith}
 use borrow.Author.Needs.{needs}
 use Rattle.step.proofs.saved.saved.Statement.{statement}
 use Rattle.step.proofs.saved.saved.Tie as tie
