@@ -18,6 +18,7 @@ import sys
 STATEMENTS = [
     "runLeaves", "backLeaves", "resetAnswer", "resetImage", "romAnswer", "windowOf", "packedOf",
     "Booted", "calledAll", "TakesBack", "marked",
+    "Claim", "EachClaim", "RunClaim",
 ]
 
 NAME = r"[^\s(){}\[\],.;:=`\"]+"

@@ -8,6 +8,29 @@
 
 static char line[STATION_LINE_BYTES + 2];
 
+/* The files that a script may name; 0 for one that is not there. */
+static int file_named(const char *name, struct lent *file)
+{
+    if (strcmp(name, "boot.rom") == 0) {
+        *file = boot_rom();
+        return 1;
+    }
+    if (strcmp(name, "exec.rom") == 0) {
+        *file = lend(4);
+        return 1;
+    }
+    if (strcmp(name, "bad.rom") == 0) {
+        *file = lend(6);
+        return 1;
+    }
+    if (strcmp(name, "text.bin") == 0) {
+        *file = lend(12);
+        memcpy(file->bytes, "units mm\n\x01\xff\x7f", 12);
+        return 1;
+    }
+    return 0;
+}
+
 static void name_in(const uint64_t *session, size_t from, size_t to, char *name, size_t room)
 {
     size_t a = (size_t)session[from], b = (size_t)session[to];

@@ -1,4 +1,4 @@
-/* A station for the tests: its buffers between guard bytes, and its files. */
+/* A station for the tests: its buffers between guard bytes, and what its machine runs. */
 #ifndef PANEL_STATION_H
 #define PANEL_STATION_H
 
@@ -132,29 +132,6 @@ static struct lent boot_rom(void)
     }
     memcpy(b.bytes + 0x180, "\x60\x00\xf0\x0b", 4); /* j 0x1fc00180 */
     return b;
-}
-
-/* The files that a script may name; NULL for one that is not there. */
-static int file_named(const char *name, struct lent *file)
-{
-    if (strcmp(name, "boot.rom") == 0) {
-        *file = boot_rom();
-        return 1;
-    }
-    if (strcmp(name, "exec.rom") == 0) {
-        *file = lend(4);
-        return 1;
-    }
-    if (strcmp(name, "bad.rom") == 0) {
-        *file = lend(6);
-        return 1;
-    }
-    if (strcmp(name, "text.bin") == 0) {
-        *file = lend(12);
-        memcpy(file->bytes, "units mm\n\x01\xff\x7f", 12);
-        return 1;
-    }
-    return 0;
 }
 
 #endif

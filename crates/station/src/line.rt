@@ -1,11 +1,11 @@
 // One line: what it asks for, of a session with a station or without.
 use crate::compare;
-use actions::backward::back;
 use actions::blame::blame;
 use actions::load;
 use actions::make;
 use actions::running;
 use actions::save;
+use actions::taken_back::back;
 use command::Command;
 use command::command;
 use screen::bad;

@@ -10,12 +10,12 @@ use mathlib.Core.List.{List}
 use borrow.Author.Tests.{eqb-true, leb-true, eq-eqb, ne-eqb}
 use lib.Dec.{eqb}
 use lib.ListN.{length}
-use lib.Seq.{sets}
+use lib.Seq.{sets, sets-eq}
 use Rattle.word.specs.Little.{fromBytes, toBytes}
 use Rattle.word.proofs.LittleBytes.{length-to, from-to}
 use Rattle.memory.specs.Memory.{loadAt}
 use Rattle.ring.specs.Slots.{slot, put}
-use Rattle.ring.proofs.Slots.{put-sets, slot-same, slot-other}
+use Rattle.ring.proofs.Slots.{slot-same, slot-other}
 use Rattle.record.specs.declared.Saved.{Saved}
 use Rattle.record.specs.declared.Saved.the-variants.{Nothing, Register, TlbRow, RamWord}
 use Rattle.record.specs.Keeps.{savedRanged}
@@ -31,7 +31,7 @@ module _ (ram : List ℕ) (x y old : ℕ) (small : old < 2 ^ 32) (first : 4 * x 
   load-cell m = refl
 
   as-put : sets ram (4 * x) (toBytes 4 old) ≡ put ram (4 * x) (toBytes 4 old)
-  as-put = sym (put-sets ram (4 * x) (toBytes 4 old) (omega (arith, length-to 4 old)))
+  as-put = sets-eq (toBytes 4 old) ram (4 * x) (omega (arith, length-to 4 old))
 
   abbrev after : List ℕ
   after = put ram (4 * x) (toBytes 4 old)
