@@ -34,7 +34,7 @@ pub fn show(out: &mut [u8], at: usize, n: u64, text: &[u8]) -> usize {
     let at = with(
         out,
         at,
-        b"Printer %d, %g bytes printed:\n",
+        b"Printer %d, bytes printed: %g\n",
         n,
         text.len() as u64,
         0,

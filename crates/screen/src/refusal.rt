@@ -86,7 +86,7 @@ pub fn no_room(out: &mut [u8], at: usize, bytes: u64) -> usize {
     with(
         out,
         at,
-        b"Refused: the file does not fit in RAM, which is %g bytes from 0x20000000.\n",
+        b"Refused: the file does not fit. RAM is %g bytes from 0x20000000.\n",
         bytes,
         0,
         0,
