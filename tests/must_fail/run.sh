@@ -37,7 +37,7 @@ kind_of() {
             else if (text ~ /has no `|not in scope|no such name|not admitted|arguments? more than|is not a function|takes no argument/)
                 print "a missing name"
             else if (text ~ /the goal does not follow/) print "a number that fails"
-            else if (text ~ /differ/) print "two values that differ"
+            else if (text ~ /differ|expected type `/) print "two values that differ"
             else if (text ~ /`(rw|simp)` has no last argument|no occurrence/) print "an equation that is not there"
             else if (text ~ /`cc`/) print "a congruence that does not close"
             else if (text ~ /`search`/) print "a search that does not close"
