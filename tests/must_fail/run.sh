@@ -26,7 +26,8 @@ kind_of() {
             return out
         }
         first && /^[^ ]/ { exit }
-        !first && /^[^ ]*: error: / { first = "error" }
+        # What cannot be checked because something else was refused is no error of its own.
+        !first && /^[^ ]*: error: / && !/was not admitted/ { first = "error" }
         !first && /^note: [^ ]*:[0-9]+:[0-9]+: it is not proved/ { first = "note" }
         first { text = text " " words($0) }
         END {
@@ -34,7 +35,7 @@ kind_of() {
             else if (first == "note") print "a search that does not close"
             else if (text ~ /bound of its own|broke off|given up|resource limit|step limit|ran out|would have made more|came back to a goal/)
                 print "a limit"
-            else if (text ~ /has no `|not in scope|no such name|not admitted|arguments? more than|is not a function|takes no argument/)
+            else if (text ~ /has no `|not in scope|no such name|arguments? more than|is not a function|takes no argument/)
                 print "a missing name"
             else if (text ~ /the goal does not follow/) print "a number that fails"
             else if (text ~ /differ|expected type `/) print "two values that differ"
