@@ -102,6 +102,8 @@ self_test() {
     refused silent "fn made::f: proved" "logic=not-proved"
     refused strange "p/Proof.antt:2:1: error: words that are not known here"
     refused missing
+    refused consequence "p/Proof.antt:4:5: error: \`f-spec\`: \`close\` was not admitted, so this cannot be checked" "logic=not-proved"
+    refused behind "p/Proof.antt:4:5: error: \`f-spec\`: \`close\` was not admitted, so this cannot be checked" "p/Proof.antt:9:1: error: \`x\` is not in scope"
     refused late "p/Proof.antt:2:1: error: \`x\` is not in scope" "p/Proof.antt:3:1: error: the two types differ"
     root=$(mktemp -d)
     if judge "$root" > "$root/out"; then
@@ -119,7 +121,7 @@ self_test() {
         exit 1
     }
     rm -rf "$root"
-    echo "self-test: nine logs that show nothing were refused, and four that show a fact let through"
+    echo "self-test: eleven logs that show nothing were refused, and four that show a fact let through"
 }
 
 case $#:${1:-} in
