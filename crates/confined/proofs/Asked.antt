@@ -20,14 +20,14 @@ use Rattle.tlb.specs.declared.Row.{Row}
 use Rattle.reach.specs.declared.Reached.{Reached}
 use Rattle.reach.specs.declared.access.Kind.the-variants as kind
 use Rattle.state.specs.declared.machine.Core.{Core}
-use Rattle.decide.specs.Access.{reachedOf, storeWidth}
-use Rattle.decide.specs.Branch.{jumpsOf}
-use Rattle.decide.specs.Control.{controlOf}
-use Rattle.decide.specs.Intend.{intendOf}
-use Rattle.decide.specs.Operand.{regOf}
-use Rattle.decide.specs.Operate.{registerOf, immediateOf, summedOf}
-use Rattle.decide.specs.declared.intent.Intent.{Intent}
-use Rattle.decide.specs.declared.intent.Intent.the-variants as intent
+use Rattle.intend.specs.Access.{reachedOf, storeWidth}
+use Rattle.intend.specs.Branch.{jumpsOf}
+use Rattle.intend.specs.Control.{controlOf}
+use Rattle.intend.specs.Intend.{intendOf}
+use Rattle.intend.specs.Operand.{regOf}
+use Rattle.intend.specs.Operate.{registerOf, immediateOf, summedOf}
+use Rattle.intend.specs.declared.intent.Intent.{Intent}
+use Rattle.intend.specs.declared.intent.Intent.the-variants as intent
 
 module _ (core : Core) (regs : List ℕ) (t : List Row) (sizes : Sizes) where
   -- the instruction is a store, and its answer is this one

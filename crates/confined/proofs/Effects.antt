@@ -27,15 +27,15 @@ use Rattle.reach.specs.declared.Reached.the-variants.{Lands, Exception}
 use Rattle.reach.specs.declared.access.Kind.the-variants.{Fetch, Store}
 use Rattle.reach.specs.declared.access.Width.the-variants.{Four}
 use Rattle.state.specs.declared.machine.Core.{Core}
-use Rattle.decide.specs.Access.{reachedOf, storeWidth}
+use Rattle.intend.specs.Access.{reachedOf, storeWidth}
+use Rattle.intend.specs.Intend.{intendOf}
+use Rattle.intend.specs.Operand.{regOf}
+use Rattle.intend.specs.declared.intent.Intent.{Intent}
+use Rattle.intend.specs.declared.intent.Intent.the-variants as intent
 use Rattle.decide.specs.Decide.{executeOf, fetchedOf, decideOf}
-use Rattle.decide.specs.Intend.{intendOf}
 use Rattle.decide.specs.Lent.{Lent, sizesOf, wordIn, around}
-use Rattle.decide.specs.Operand.{regOf}
 use Rattle.decide.specs.Part.{storePart}
 use Rattle.decide.specs.Settle.{toRegister, loadsOf, storesOf, storedOf, settleOf}
-use Rattle.decide.specs.declared.intent.Intent.{Intent}
-use Rattle.decide.specs.declared.intent.Intent.the-variants as intent
 use Rattle.decide.specs.declared.effect.Effect.{Effect}
 use Rattle.decide.specs.declared.effect.Effect.the-variants.{Nothing, Register, HiLo, Control, Entry, TlbRow, Ram, DeviceLoad, DeviceStore, Raise}
 use Rattle.decide.specs.declared.effect.Decision.{Decision}

@@ -35,7 +35,7 @@ use Rattle.reach.specs.declared.access.Width.{Width}
 use Rattle.reach.specs.declared.translate.Translated.{Translated}
 use Rattle.reach.specs.declared.Reached.{Reached}
 use Rattle.reach.specs.declared.Reached.the-variants.{Lands, Exception}
-use Rattle.decide.specs.Access.{reachedOf}
+use Rattle.intend.specs.Access.{reachedOf}
 use Rattle.confined.specs.Confined.{frameOf}
 
 module _ (t : List Row) (entry : ℕ) (sizes : Sizes) (va : ℕ) where

@@ -26,15 +26,15 @@ use Rattle.reach.specs.declared.access.Kind.the-variants as kind
 use Rattle.tlb.specs.Index.{indexOf}
 use Rattle.tlb.specs.declared.Row.{Row}
 use Rattle.state.specs.declared.machine.Core.{Core}
-use Rattle.decide.specs.Operand.{regOf}
-use Rattle.decide.specs.Operate.{registerOf, immediateOf, summedOf}
-use Rattle.decide.specs.Branch.{linkRegister, jumpsOf}
-use Rattle.decide.specs.Control.{functionOf, controlOf}
-use Rattle.decide.specs.Access.{loadWidth, storeWidth}
-use Rattle.decide.specs.Intend.{intendOf}
+use Rattle.intend.specs.Operand.{regOf}
+use Rattle.intend.specs.Operate.{registerOf, immediateOf, summedOf}
+use Rattle.intend.specs.Branch.{linkRegister, jumpsOf}
+use Rattle.intend.specs.Control.{functionOf, controlOf}
+use Rattle.intend.specs.Access.{loadWidth, storeWidth}
+use Rattle.intend.specs.Intend.{intendOf}
+use Rattle.intend.specs.declared.intent.Intent.{Intent}
 use Rattle.decide.specs.Lent.{Lent, sizesOf, Whole}
 use Rattle.decide.specs.Range.{Asks}
-use Rattle.decide.specs.declared.intent.Intent.{Intent}
 use Rattle.decide.proofs.Held.{reached-held}
 use Rattle.decide.proofs.Named.{Names, NamedControl, decoded-names}
 

@@ -19,7 +19,7 @@ use Rattle.reach.specs.declared.access.Kind.{Kind}
 use Rattle.reach.specs.declared.access.Width.{Width}
 use Rattle.reach.specs.declared.Reached.{Reached}
 use Rattle.reach.specs.declared.Reached.the-variants.{Lands, Exception}
-use Rattle.decide.specs.Access.{reachedOf}
+use Rattle.intend.specs.Access.{reachedOf}
 use Rattle.decide.specs.Lent.{Lent, sizesOf, Whole, Room}
 use Rattle.decide.specs.Range.{Held}
 

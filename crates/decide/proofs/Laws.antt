@@ -20,14 +20,14 @@ use Rattle.reach.specs.declared.Reached.the-variants.{Lands, Exception}
 use Rattle.reach.specs.declared.access.Kind.the-variants.{Fetch}
 use Rattle.reach.specs.declared.access.Width.the-variants.{Four}
 use Rattle.state.specs.declared.machine.Core.{Core}
-use Rattle.decide.specs.Access.{reachedOf}
-use Rattle.decide.specs.Intend.{intendOf}
+use Rattle.intend.specs.Access.{reachedOf}
+use Rattle.intend.specs.Intend.{intendOf}
+use Rattle.intend.specs.declared.intent.Intent.{Intent}
+use Rattle.intend.specs.declared.intent.Intent.the-variants as intent
 use Rattle.decide.specs.Lent.{Lent, sizesOf, wordIn, Whole, Room}
 use Rattle.decide.specs.Settle.{toRegister, loadsOf, storesOf, settleOf}
 use Rattle.decide.specs.Decide.{executeOf, fetchedOf, decideOf}
 use Rattle.decide.specs.Range.{Asks, Within}
-use Rattle.decide.specs.declared.intent.Intent.{Intent}
-use Rattle.decide.specs.declared.intent.Intent.the-variants as intent
 use Rattle.decide.specs.declared.effect.Effect.{Effect}
 use Rattle.decide.specs.declared.effect.Effect.the-variants as effect
 use Rattle.decide.specs.declared.effect.Decision.{Decision}

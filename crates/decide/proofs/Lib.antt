@@ -4,6 +4,5 @@ pub mod Named
 pub mod Asks
 pub mod Laws
 pub mod Parts
-pub mod Plain
+pub mod PlainFetch
 pub mod Fetches
-pub mod InParts

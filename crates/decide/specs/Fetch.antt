@@ -6,7 +6,7 @@ use Rattle.reach.specs.declared.Reached.the-variants.{Lands, Exception}
 use Rattle.reach.specs.declared.access.Kind.the-variants as kind
 use Rattle.reach.specs.declared.access.Width.the-variants.{Four}
 use Rattle.state.specs.declared.machine.Core.{Core}
-use Rattle.decide.specs.Access.{reachedOf}
+use Rattle.intend.specs.Access.{reachedOf}
 use Rattle.decide.specs.Lent.{Lent, sizesOf, wordIn}
 use Rattle.decide.specs.declared.fetch.Fetched.{Fetched}
 use Rattle.decide.specs.declared.fetch.Fetched.the-variants.{Word, Refused}

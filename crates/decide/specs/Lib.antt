@@ -1,11 +1,3 @@
-pub mod Codes
-pub mod Operand
-pub mod Operate
-pub mod HiLo
-pub mod Branch
-pub mod Control
-pub mod Access
-pub mod Intend
 pub mod Lent
 pub mod Part
 pub mod Fetch

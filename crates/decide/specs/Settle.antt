@@ -12,11 +12,11 @@ use Rattle.cp0.specs.declared.entry.Exception.{Exception}
 use Rattle.reach.specs.declared.Reached.{Reached}
 use Rattle.reach.specs.declared.Reached.the-variants as reached
 use Rattle.state.specs.declared.machine.Core.{Core}
-use Rattle.decide.specs.Operand.{regOf, afterOf}
+use Rattle.intend.specs.Operand.{regOf, afterOf}
+use Rattle.intend.specs.declared.intent.Intent.{Intent}
+use Rattle.intend.specs.declared.intent.Intent.the-variants as intent
 use Rattle.decide.specs.Lent.{Lent, wordIn}
 use Rattle.decide.specs.Part.{loadPart, storePart}
-use Rattle.decide.specs.declared.intent.Intent.{Intent}
-use Rattle.decide.specs.declared.intent.Intent.the-variants as intent
 use Rattle.decide.specs.declared.effect.Effect.{Effect}
 use Rattle.decide.specs.declared.effect.Effect.the-variants.{Nothing, Register, HiLo, Control, Entry, TlbRow, Ram, DeviceLoad, DeviceStore, Raise}
 use Rattle.decide.specs.declared.effect.Decision.{Decision}

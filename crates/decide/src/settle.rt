@@ -1,6 +1,6 @@
 // What an intent then changes: the PC pair and the effect.
 ghost use mathlib.Core.Path.{_≡_};
-ghost use Rattle.decide.specs.Operand.{regOf};
+ghost use Rattle.intend.specs.Operand.{regOf};
 ghost use Rattle.decide.specs.Lent.{lentOf};
 ghost use Rattle.decide.specs.Settle.{
   onOf,
@@ -20,15 +20,15 @@ ghost use Rattle.decide.specs.Settle.{
 ghost use Rattle.decide.specs.Range.{Held, Asks};
 use crate::effect::Decision;
 use crate::effect::Effect;
-use crate::intent::Intent;
 use crate::lent::word_in;
-use crate::operand::after;
-use crate::operand::reg;
 use crate::part::load_part;
 use crate::part::store_part;
 use board::places::Place;
 use cp0::entry::Exception;
 use cp0::entry::vector;
+use intend::intent::Intent;
+use intend::operand::after;
+use intend::operand::reg;
 use isa::instr::LoadOp;
 use isa::instr::StoreOp;
 use reach::Reached;

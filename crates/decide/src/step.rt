@@ -2,16 +2,16 @@
 ghost use mathlib.Core.Path.{_≡_};
 ghost use Rattle.decide.specs.Lent.{lentOf, Whole};
 ghost use Rattle.decide.specs.Decide.{executeOf, decideOf};
-use crate::codes::INT;
 use crate::effect::Decision;
 use crate::fetch::Fetched;
 use crate::fetch::fetch;
-use crate::intend::intend;
 use crate::lent::sizes;
 use crate::settle::refused;
 use crate::settle::settle;
 use crate::settle::trapped;
 use cp0::interrupt::interrupts;
+use intend::codes::INT;
+use intend::intend;
 use isa::decode::decode;
 use state::machine::Core;
 use tlb::Row;

@@ -13,10 +13,10 @@ use Rattle.printer.specs.Tick.{ticks, tickOne, printerTicked, paperTicked, fini
 use Rattle.board.specs.Places.{mappedOf}
 use Rattle.reach.specs.Reach.{reachOf}
 use Rattle.reach.specs.Translate.{translatedOf}
-use Rattle.decide.specs.Access.{reachedOf}
+use Rattle.intend.specs.Access.{reachedOf}
+use Rattle.intend.specs.Intend.{intendOf}
+use Rattle.intend.specs.Operand.{regOf}
 use Rattle.decide.specs.Decide.{decideOf, executeOf}
-use Rattle.decide.specs.Intend.{intendOf}
-use Rattle.decide.specs.Operand.{regOf}
 use Rattle.decide.specs.Settle.{settleOf}
 use Rattle.step.specs.Apply.{effectOf}
 use Rattle.step.specs.Step.{stepOf}

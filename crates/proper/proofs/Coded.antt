@@ -30,7 +30,7 @@ use Rattle.reach.specs.declared.translate.Translated.{Translated}
 use Rattle.reach.specs.declared.translate.Translated.the-variants.{To, Raises}
 use Rattle.reach.specs.declared.Reached.{Reached}
 use Rattle.reach.specs.declared.Reached.the-variants.{Lands, Exception}
-use Rattle.decide.specs.Access.{reachedOf}
+use Rattle.intend.specs.Access.{reachedOf}
 
 abbrev pub Coded : Reached → Type 0
 Coded (Lands place) = Unit {0}

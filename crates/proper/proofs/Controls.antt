@@ -24,10 +24,10 @@ use Rattle.tlb.specs.declared.Found.the-variants.{At, Nothing}
 use Rattle.tlb.specs.declared.Row.{Row}
 use Rattle.printer.specs.Rules.{within}
 use Rattle.printer.proofs.Each.{each-holds}
-use Rattle.decide.specs.Control.{writtenWord, poppedWord, functionOf, controlOf}
-use Rattle.decide.specs.Operand.{regOf}
-use Rattle.decide.specs.declared.intent.Intent.{Intent}
-use Rattle.decide.specs.declared.intent.Intent.the-variants.{Write, Branch, HiLo, Load, Store, SetControl, SetEntry, SetRow, Trap}
+use Rattle.intend.specs.Control.{writtenWord, poppedWord, functionOf, controlOf}
+use Rattle.intend.specs.Operand.{regOf}
+use Rattle.intend.specs.declared.intent.Intent.{Intent}
+use Rattle.intend.specs.declared.intent.Intent.the-variants.{Write, Branch, HiLo, Load, Store, SetControl, SetEntry, SetRow, Trap}
 use Rattle.proper.specs.Proper.{ControlGood, RowGood}
 use Rattle.proper.proofs.Coded.{Coded}
 use Rattle.proper.proofs.Entered.{popped-good}

@@ -12,10 +12,10 @@ use Rattle.reach.specs.declared.Reached.the-variants.{Lands, Exception}
 use Rattle.reach.specs.declared.access.Kind.the-variants.{Fetch}
 use Rattle.reach.specs.declared.access.Width.the-variants.{Four}
 use Rattle.state.specs.declared.machine.Core.{Core}
-use Rattle.decide.specs.Access.{reachedOf}
-use Rattle.decide.specs.Codes.{codeInt}
+use Rattle.intend.specs.Access.{reachedOf}
+use Rattle.intend.specs.Codes.{codeInt}
+use Rattle.intend.specs.Intend.{intendOf}
 use Rattle.decide.specs.Decide.{executeOf, fetchedOf, decideOf}
-use Rattle.decide.specs.Intend.{intendOf}
 use Rattle.decide.specs.Lent.{Lent, sizesOf, wordIn, Whole}
 use Rattle.proper.specs.Proper.{Sources, Proper}
 use Rattle.proper.proofs.Coded.{Coded, reached-coded}

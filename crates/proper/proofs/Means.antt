@@ -20,14 +20,14 @@ use Rattle.board.specs.declared.places.Sizes.{Sizes}
 use Rattle.reach.specs.declared.access.Kind.the-variants as kind
 use Rattle.tlb.specs.declared.Row.{Row}
 use Rattle.state.specs.declared.machine.Core.{Core}
-use Rattle.decide.specs.Access.{loadWidth, storeWidth}
-use Rattle.decide.specs.Branch.{compareOf, signOf, takenOf, jumpsOf}
-use Rattle.decide.specs.HiLo.{keptOf}
-use Rattle.decide.specs.Intend.{intendOf}
+use Rattle.intend.specs.Access.{loadWidth, storeWidth}
+use Rattle.intend.specs.Branch.{compareOf, signOf, takenOf, jumpsOf}
+use Rattle.intend.specs.HiLo.{keptOf}
+use Rattle.intend.specs.Intend.{intendOf}
+use Rattle.intend.specs.Operand.{regOf}
+use Rattle.intend.specs.Operate.{registerOf, immediateOf, summedOf}
+use Rattle.intend.specs.declared.intent.Intent.{Intent}
 use Rattle.decide.specs.Lent.{Lent}
-use Rattle.decide.specs.Operand.{regOf}
-use Rattle.decide.specs.Operate.{registerOf, immediateOf, summedOf}
-use Rattle.decide.specs.declared.intent.Intent.{Intent}
 use Rattle.proper.specs.Proper.{Sources}
 use Rattle.proper.proofs.Coded.{reached-coded}
 use Rattle.proper.proofs.Controls.{Means, control-means}

@@ -30,8 +30,8 @@ use Rattle.isa.specs.declared.instr.ImmediateOp.{ImmediateOp}
 use Rattle.isa.specs.declared.instr.ImmediateOp.the-variants.{Addi, Addiu, Slti, Sltiu, Andi, Ori, Xori}
 use Rattle.isa.specs.declared.instr.ProductOp.{ProductOp}
 use Rattle.isa.specs.declared.instr.ProductOp.the-variants.{Mult, Multu, Div, Divu}
-use Rattle.decide.specs.HiLo.{productOf, halfOf, withHalf}
-use Rattle.decide.specs.Operate.{shiftOf, registerOf, immediateOf}
+use Rattle.intend.specs.HiLo.{productOf, halfOf, withHalf}
+use Rattle.intend.specs.Operate.{shiftOf, registerOf, immediateOf}
 use Rattle.proper.proofs.Words.{bits-small}
 
 -- a sum, where there is one

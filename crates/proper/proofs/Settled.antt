@@ -16,11 +16,11 @@ use Rattle.cp0.specs.declared.entry.Exception as entry
 use Rattle.tlb.specs.declared.Row.{Row}
 use Rattle.reach.specs.declared.Reached.the-variants.{Lands, Exception}
 use Rattle.state.specs.declared.machine.Core.{Core}
+use Rattle.intend.specs.Operand.{regOf}
+use Rattle.intend.specs.declared.intent.Intent.{Intent}
+use Rattle.intend.specs.declared.intent.Intent.the-variants as intent
 use Rattle.decide.specs.Lent.{Lent, wordIn}
-use Rattle.decide.specs.Operand.{regOf}
 use Rattle.decide.specs.Settle.{onOf, raisedOf, refusedOf, trappedOf, toRegister, loadsOf, storesOf, settleOf, writtenOf}
-use Rattle.decide.specs.declared.intent.Intent.{Intent}
-use Rattle.decide.specs.declared.intent.Intent.the-variants as intent
 use Rattle.decide.specs.declared.effect.Effect.{Effect}
 use Rattle.decide.specs.declared.effect.Effect.the-variants as effect
 use Rattle.proper.specs.Proper.{Sources, Leaves, Proper}

@@ -12,7 +12,7 @@ use Rattle.word.specs.Lists.{Below}
 use Rattle.word.specs.Little.{fromBytes}
 use Rattle.word.specs.Number.{modulo, bits}
 use Rattle.word.proofs.Cond.{picked}
-use Rattle.decide.specs.Operand.{regOf, afterOf}
+use Rattle.intend.specs.Operand.{regOf, afterOf}
 
 pub modulo-small : (n : ℕ) (z : ℤ) → 0 < n → modulo n z < n
 modulo-small n (pos a) h = mod-lt a h

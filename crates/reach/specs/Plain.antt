@@ -1,5 +1,5 @@
 -- The plain access: VMc (bit 24 of Status) is off, the address is aligned, and RAM holds it. Its answer needs neither the table nor the map
--- (`plain-reach`; under CP0's registers `plain-lands` of decide).
+-- (`plain-reach`; under CP0's registers `plain-lands` of intend).
 use mathlib.Core.Bool.{Bool, _&&_, not}
 use Prim.Native.Nat.{ℕ}
 use Rattle.word.specs.Map.{bit}

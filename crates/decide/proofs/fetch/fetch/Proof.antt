@@ -2,7 +2,7 @@
 use mathlib.Core.Path.{sym, _∙_}
 use native.Mathlib.Omega.{arith}
 use Rattle.reach.proofs.PlainLands.{is-plain}
-use Rattle.decide.proofs.Plain.{plain-room, plain-fetch}
+use Rattle.decide.proofs.PlainFetch.{plain-room, plain-fetch}
 use borrow.Author.Needs.{needs}
 use Rattle.decide.proofs.fetch.fetch.Statement.{statement}
 use Rattle.decide.proofs.fetch.fetch.Tie as tie

@@ -1,9 +1,9 @@
 -- `decide::fetch::fetch_slow` meets its contract: the answer, and the word where it lands, for which there is room (`reached-room`).
 use Rattle.reach.specs.declared.access.Kind.the-variants.{Fetch}
 use Rattle.reach.specs.declared.access.Width.the-variants.{Four}
+use Rattle.intend.proofs.InParts.{reached-in-parts}
 use Rattle.decide.specs.Fetch.{fetchOf}
 use Rattle.decide.proofs.Held.{reached-room}
-use Rattle.decide.proofs.InParts.{reached-in-parts}
 use borrow.Author.Needs.{needs}
 use Rattle.decide.proofs.fetch.fetch_slow.Statement.{statement}
 use Rattle.decide.proofs.fetch.fetch_slow.Tie as tie
