@@ -2,13 +2,14 @@
 use Prim.Native.Nat.{ℕ, _-_, _*_, _/_, _^_}
 use mathlib.Core.Bool.{cond}
 use lib.Dec.{leb}
+use Rattle.word.specs.Sizes.{tableSize}
 
 abbrev pub field : ℕ → ℕ
 field random = random / 2 ^ 8
 
--- the last entry of a table of sixteen
+-- the last entry of the table
 abbrev pub topEntry : ℕ
-topEntry = 15
+topEntry = tableSize - 1
 
 abbrev pub randomOf : ℕ → ℕ → ℕ
 randomOf top random = cond (leb (field random) 1) top (field random - 1) * 2 ^ 8

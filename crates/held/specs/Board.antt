@@ -1,27 +1,22 @@
 -- How a run holds the eight printers: as their forty words, in the order of the image and of a step's record.
-use Prim.Native.Nat.{ℕ, _+_, _*_}
+use Prim.Native.Nat.{ℕ, _*_}
 use mathlib.Core.List.{List}
 use mathlib.Core.Path.{_≡_}
 use lib.ListN.{length, getD}
 use Rattle.word.specs.Lists.{tabulate}
+use Rattle.word.specs.Sizes.{devices}
 use Rattle.printer.specs.declared.Printer.{Printer}
 use Rattle.printer.specs.Tick.{anyBusy}
 use Rattle.state.specs.declared.machine.Board.{Board}
 use Rattle.state.specs.declared.machine.Settings.{Settings}
+use Rattle.state.specs.Layout.{printerFrom}
 use Rattle.held.specs.declared.Held.{Held}
 
 abbrev pub printerIn : List ℕ → ℕ → Printer
-printerIn words n =
-    record {
-      status = getD words (5 * n) 0;
-      command = getD words (5 * n + 1) 0;
-      data0 = getD words (5 * n + 2) 0;
-      left = getD words (5 * n + 3) 0;
-      count = getD words (5 * n + 4) 0;
-    }
+printerIn words n = printerFrom (5 * n) (λ (k : ℕ). getD words k 0)
 
 unfoldable pub printersIn : List ℕ → List Printer
-printersIn words = tabulate 8 (printerIn words)
+printersIn words = tabulate devices (printerIn words)
 
 -- the board, of the parts that a run holds
 abbrev pub boardOf : Held → Settings → List ℕ → Board

@@ -6,6 +6,7 @@ use lib.Bits.{bitAnd}
 use lib.Dec.{eqb, leb}
 use lib.ListN.{length, getD}
 use Rattle.word.specs.Lists.{every}
+use Rattle.word.specs.Sizes.{devices}
 use Rattle.printer.specs.declared.Printer.{Printer}
 use Rattle.printer.specs.declared.Line.{Line}
 use Rattle.word.specs.Map.{bit}
@@ -41,10 +42,10 @@ printerKeepsAt installed delay room line n =
 
 -- "pending within installed", and the rules of each printer
 pub record Keeps (installed delay room : ℕ) (line : Line) : Type 0 where
-  pub eight : length (line .printers) ≡ 8
+  pub eight : length (line .printers) ≡ devices
   pub owned : within installed (line .pending) ≡ true
-  pub each : (n : ℕ) → n < 8 → printerKeepsAt installed delay room line n ≡ true
+  pub each : (n : ℕ) → n < devices → printerKeepsAt installed delay room line n ≡ true
 
 -- the same as a test, which a call makes of a lent image
 unfoldable pub lineKeeps : ℕ → ℕ → ℕ → Line → Bool
-lineKeeps installed delay room line = within installed (line .pending) && every 8 (printerKeepsAt installed delay room line)
+lineKeeps installed delay room line = within installed (line .pending) && every devices (printerKeepsAt installed delay room line)

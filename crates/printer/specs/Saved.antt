@@ -6,6 +6,7 @@ use mathlib.Core.List.{List}
 use lib.Dec.{eqb, ltb}
 use lib.ListN.{getD, set, replicate}
 use Rattle.word.specs.Lists.{tabulate, every}
+use Rattle.word.specs.Sizes.{devices}
 use Rattle.printer.specs.declared.Printer.{Printer}
 use Rattle.printer.specs.declared.Line.{Line}
 use Rattle.printer.specs.declared.saved.SavedPaper.{SavedPaper}
@@ -24,7 +25,7 @@ savedByte printers paper n =
     cond (prints (roomOf paper) p) (getD paper (placeOf (roomOf paper) n (p .count)) 0) 0
 
 unfoldable pub savedPaperOf : List Printer → List ℕ → SavedPaper
-savedPaperOf printers paper = record { mask = printingMap (roomOf paper) printers 8; bytes = tabulate 8 (savedByte printers paper) }
+savedPaperOf printers paper = record { mask = printingMap (roomOf paper) printers devices; bytes = tabulate devices (savedByte printers paper) }
 
 -- a byte put back; nothing is done at a place that paper does not have
 abbrev pub putAt : Bool → ℕ → Printer → ℕ → List ℕ → List ℕ
@@ -37,7 +38,7 @@ putBack mask bytes printers (suc n) paper =
     putBack mask bytes printers n (putAt (bit n mask) n (getD printers n noPrinter) (getD bytes n 0) paper)
 
 abbrev pub restoredPaper : SavedPaper → List Printer → List ℕ → List ℕ
-restoredPaper saved printers paper = putBack (saved .mask) (saved .bytes) printers 8 paper
+restoredPaper saved printers paper = putBack (saved .mask) (saved .bytes) printers devices paper
 
 -- the layout: a byte has its place within the printer's eighth, or is 0
 abbrev pub byteFits : SavedPaper → List Printer → ℕ → ℕ → Bool
@@ -45,11 +46,11 @@ byteFits saved printers room n =
     cond (bit n (saved .mask)) (ltb (getD printers n noPrinter .count) room) (eqb (getD (saved .bytes) n 0) 0)
 
 unfoldable pub paperFits : SavedPaper → List Printer → ℕ → Bool
-paperFits saved printers room = ltb (saved .mask) 256 && every 8 (byteFits saved printers room)
+paperFits saved printers room = ltb (saved .mask) 256 && every devices (byteFits saved printers room)
 
 -- what is kept of a step in which no printer is busy
 abbrev pub nothingSaved : SavedPaper
-nothingSaved = record { mask = 0; bytes = replicate 8 0 }
+nothingSaved = record { mask = 0; bytes = replicate devices 0 }
 
 -- all that a record keeps of the printers
 pub record Note : Type 0 where

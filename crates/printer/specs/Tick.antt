@@ -9,6 +9,7 @@ use Rattle.printer.specs.declared.Printer.{Printer}
 use Rattle.printer.specs.declared.Line.{Line}
 use Rattle.printer.specs.declared.tick.One.{One}
 use Rattle.word.specs.Map.{withBit}
+use Rattle.word.specs.Sizes.{devices}
 
 -- the line and the lent paper
 pub record Printing : Type 0 where
@@ -27,7 +28,7 @@ isBusy p = eqb (p .status) 3
 
 -- the bytes of an eighth
 abbrev pub roomOf : List ℕ → ℕ
-roomOf paper = length paper / 8
+roomOf paper = length paper / devices
 
 -- where the next byte of device n goes, that has printed count bytes: each has an eighth of its own
 abbrev pub placeOf : ℕ → ℕ → ℕ → ℕ
@@ -85,7 +86,7 @@ ticks zero s = s
 ticks (suc n) s = tickOne n (ticks n s)
 
 abbrev pub tickedOf : Printing → Printing
-tickedOf s = ticks 8 s
+tickedOf s = ticks devices s
 
 -- a printer among the first n is busy
 unfoldable pub someBusy : ℕ → List Printer → Bool
@@ -93,7 +94,7 @@ someBusy zero printers = false
 someBusy (suc n) printers = someBusy n printers || isBusy (getD printers n noPrinter)
 
 abbrev pub anyBusy : List Printer → Bool
-anyBusy printers = someBusy 8 printers
+anyBusy printers = someBusy devices printers
 
 -- as many ticks as told
 unfoldable pub waitedOf : ℕ → Printing → Printing

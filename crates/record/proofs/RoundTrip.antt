@@ -17,11 +17,11 @@ use Rattle.memory.proofs.Cells.{read-written, write-read, cells-small}
 use Rattle.memory.proofs.OneCell.{load-small}
 use Rattle.printer.specs.declared.Printer.{Printer}
 use Rattle.printer.specs.Tick.{noPrinter}
-use Rattle.state.specs.Layout.{coreWords, printerWords}
+use Rattle.state.specs.Layout.{coreWords, coreFrom, printerWords}
 use Rattle.record.specs.declared.Record.{Record}
 use Rattle.record.specs.declared.Saved.{Saved}
 use Rattle.record.specs.declared.Saved.the-variants.{Nothing, Register, TlbRow, RamWord}
-use Rattle.record.specs.Layout.{savedWords, layoutOf, recordBytes, coreAt, paperAt, savedAt, printerAt, recordAt, slotWord, recordOf}
+use Rattle.record.specs.Layout.{savedWords, layoutOf, recordBytes, paperAt, savedAt, printerAt, recordAt, slotWord, recordOf}
 use Rattle.record.specs.Keeps.{savedKeeps, savedRanged, paperKeeps, wordsKeep, keepsLayout, Ranged}
 use Rattle.record.proofs.Stored.{length-layout, length-words}
 
@@ -170,7 +170,7 @@ in-order f h₁ h₂ e =
     let two = both _ _ (rest .0) in
     let unused : ℕ → ℕ → ℕ → List ℕ = λ x y z. x ∷ y ∷ z ∷ [] in
     λ i.
-    coreWords (coreAt f)
+    coreWords (coreFrom 0 f)
     ++ ((f 12 ∷ f 13 ∷ f 14 ∷ bytes .0 i ∷ bytes .1 i ∷ [])
     ++ (saved .words i
     ++ (flat printerWords (tabulate 8 (printerAt f))

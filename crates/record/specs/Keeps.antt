@@ -1,5 +1,5 @@
 -- Which bytes keep the layout, and of which records they are.
-use Prim.Native.Nat.{ℕ, _%_, _^_}
+use Prim.Native.Nat.{ℕ, _+_, _%_, _^_}
 use mathlib.Core.Path.{_≡_}
 use mathlib.Core.Bool.{Bool, true, false, cond, _&&_, _||_}
 use mathlib.Core.List.{List}
@@ -7,12 +7,13 @@ use lib.Dec.{ltb, eqb}
 use lib.ListN.{length, getD}
 use Rattle.word.specs.Lists.{every, Below}
 use Rattle.word.specs.Map.{bit}
+use Rattle.word.specs.Sizes.{tableSize, devices}
 use Rattle.printer.specs.declared.saved.SavedPaper.{SavedPaper}
 use Rattle.printer.specs.Rules.{between}
 use Rattle.record.specs.declared.Record.{Record}
 use Rattle.record.specs.declared.Saved.{Saved}
 use Rattle.record.specs.declared.Saved.the-variants.{Nothing, Register, TlbRow, RamWord}
-use Rattle.record.specs.Layout.{layoutOf, slotWord, paperAt}
+use Rattle.record.specs.Layout.{layoutOf, savedBase, unusedBase, slotWord, paperAt}
 
 -- a printer that did not write has 0 for its byte
 abbrev pub byteKeeps : SavedPaper → ℕ → Bool
@@ -20,20 +21,21 @@ byteKeeps p n = bit n (p .mask) || eqb (getD (p .bytes) n 0) 0
 
 -- the eight printers have eight bits
 unfoldable pub paperKeeps : SavedPaper → Bool
-paperKeeps p = ltb (p .mask) 256 && every 8 (byteKeeps p)
+paperKeeps p = ltb (p .mask) 256 && every devices (byteKeeps p)
 
--- a register 1 to 31, a row below 16, a RAM place that is a multiple of 4; and 0 where the kind needs no word
+-- a register 1 to 31, a row of the table, a RAM place that is a multiple of 4; and 0 where the kind needs no word
 unfoldable pub savedKeeps : ℕ → ℕ → ℕ → ℕ → Bool
 savedKeeps kind which first second =
     cond (eqb kind 0) (eqb which 0 && eqb first 0 && eqb second 0)
     (cond (eqb kind 1) (between 1 31 which && eqb second 0)
-    (cond (eqb kind 2) (ltb which 16) (cond (eqb kind 3) (eqb (which % 4) 0 && eqb second 0) false)))
+    (cond (eqb kind 2) (ltb which tableSize) (cond (eqb kind 3) (eqb (which % 4) 0 && eqb second 0) false)))
 
 abbrev pub restKeeps : (ℕ → ℕ) → Bool
-restKeeps word = eqb (word 61) 0 && eqb (word 62) 0 && eqb (word 63) 0
+restKeeps word = eqb (word unusedBase) 0 && eqb (word (unusedBase + 1)) 0 && eqb (word (unusedBase + 2)) 0
 
 abbrev pub wordsKeep : (ℕ → ℕ) → Bool
-wordsKeep word = savedKeeps (word 17) (word 18) (word 19) (word 20) && paperKeeps (paperAt word) && restKeeps word
+wordsKeep word =
+    savedKeeps (word savedBase) (word (savedBase + 1)) (word (savedBase + 2)) (word (savedBase + 3)) && paperKeeps (paperAt word) && restKeeps word
 
 -- the bytes of a slot keep the layout
 unfoldable pub keepsLayout : List ℕ → Bool
@@ -44,13 +46,13 @@ keepsLayout slot = wordsKeep (slotWord slot)
 abbrev pub savedRanged : Saved → Bool
 savedRanged Nothing = true
 savedRanged (Register n old) = between 1 31 n
-savedRanged (TlbRow i row) = ltb i 16
+savedRanged (TlbRow i row) = ltb i tableSize
 savedRanged (RamWord place old) = eqb (place % 4) 0
 
 -- the records that have bytes: the arrays have their lengths, every number is a word or a byte, and the ranges
 pub record Ranged (r : Record) : Type 0 where
-  pub printers : length (r .printers) ≡ 8
-  pub eight : length (r .paper .bytes) ≡ 8
+  pub printers : length (r .printers) ≡ devices
+  pub eight : length (r .paper .bytes) ≡ devices
   pub bytes : Below 256 (r .paper .bytes)
   pub small : Below (2 ^ 32) (layoutOf r)
   pub saved : savedRanged (r .saved) ≡ true

@@ -3,7 +3,8 @@ ghost use mathlib.Core.Path.{_≡_};
 ghost use Prim.Native.Nat.{_<_};
 ghost use lib.ListN.{length};
 ghost use Rattle.word.specs.Lists.{tabulate};
-ghost use Rattle.record.specs.Layout.{slotWord, cp0At, coreAt, paperAt, savedAt, printerAt, recordOf};
+ghost use Rattle.state.specs.Layout.{cp0From, coreFrom};
+ghost use Rattle.record.specs.Layout.{slotWord, paperAt, savedAt, printerAt, recordOf};
 use crate::Record;
 use crate::Saved;
 use cp0::registers::Cp0;
@@ -24,7 +25,7 @@ pub fn word(slot: &[u8], k: usize) -> u32
 
 fn cp0(slot: &[u8]) -> Cp0
     requires { ⌜ length (now slot) ≡ 256 ⌝ }
-    ensures { λ r. ⌜ r ≡ cp0At (slotWord (now (slot .entry))) ⌝ }
+    ensures { λ r. ⌜ r ≡ cp0From 4 (slotWord (now (slot .entry))) ⌝ }
 {
     Cp0 {
         index: word(slot, 4),
@@ -40,7 +41,7 @@ fn cp0(slot: &[u8]) -> Cp0
 
 fn core(slot: &[u8]) -> Core
     requires { ⌜ length (now slot) ≡ 256 ⌝ }
-    ensures { λ r. ⌜ r ≡ coreAt (slotWord (now (slot .entry))) ⌝ }
+    ensures { λ r. ⌜ r ≡ coreFrom 0 (slotWord (now (slot .entry))) ⌝ }
 {
     Core {
         hi: word(slot, 0),
@@ -84,12 +85,13 @@ fn printer(slot: &[u8], i: usize) -> Printer
     requires { ⌜ i < 8 ⌝ }
     ensures { λ r. ⌜ r ≡ printerAt (slotWord (now (slot .entry))) i ⌝ }
 {
+    let at = 5 * i + 21;
     Printer {
-        status: word(slot, 5 * i + 21),
-        command: word(slot, 5 * i + 22),
-        data0: word(slot, 5 * i + 23),
-        left: word(slot, 5 * i + 24),
-        count: word(slot, 5 * i + 25),
+        status: word(slot, at),
+        command: word(slot, at + 1),
+        data0: word(slot, at + 2),
+        left: word(slot, at + 3),
+        count: word(slot, at + 4),
     }
 }
 

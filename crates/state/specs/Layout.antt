@@ -4,7 +4,8 @@ use Prim.Native.Nat.{ℕ, _+_, _*_, _^_}
 use mathlib.Core.List.{List, [], _∷_, _++_}
 use mathlib.Core.Path.{_≡_}
 use lib.ListN.{length, getD, drop}
-use Rattle.word.specs.Lists.{tabulate, flat, Below}
+use Rattle.word.specs.Lists.{tabulate, flat, joined, Below}
+use Rattle.word.specs.Sizes.{tableSize, devices}
 use Rattle.word.specs.Big.{wordBytes, wordAt}
 use Rattle.cp0.specs.declared.registers.Cp0.{Cp0}
 use Rattle.tlb.specs.declared.Row.{Row}
@@ -18,107 +19,156 @@ use Rattle.state.specs.declared.machine.Board.{Board}
 use Rattle.state.specs.declared.machine.Settings.{Settings}
 use Rattle.state.specs.declared.machine.Journal.{Journal}
 
--- ---- a machine as words
+-- ---- the fields of each part: as words, and read back from the words that start at `base`, where word k is `word k`
 
 -- "Index, Random, EntryHi, EntryLo, BadVAddr, Status, Cause, EPC"
 abbrev pub cp0Words : Cp0 → List ℕ
 cp0Words p = p .index ∷ p .random ∷ p .«entry_hi» ∷ p .«entry_lo» ∷ p .«bad_vaddr» ∷ p .status ∷ p .cause ∷ p .epc ∷ []
 
+abbrev pub cp0From : ℕ → (ℕ → ℕ) → Cp0
+cp0From base word =
+    record {
+      index = word base;
+      random = word (base + 1);
+      «entry_hi» = word (base + 2);
+      «entry_lo» = word (base + 3);
+      «bad_vaddr» = word (base + 4);
+      status = word (base + 5);
+      cause = word (base + 6);
+      epc = word (base + 7);
+    }
+
 -- "HI, LO, PC, next PC", and CP0's
 abbrev pub coreWords : Core → List ℕ
 coreWords c = c .hi ∷ c .lo ∷ c .pc ∷ c .«next_pc» ∷ cp0Words (c .cp0)
+
+abbrev pub coreFrom : ℕ → (ℕ → ℕ) → Core
+coreFrom base word =
+    record { hi = word base; lo = word (base + 1); pc = word (base + 2); «next_pc» = word (base + 3); cp0 = cp0From (base + 4) word }
 
 -- "(high, low)"
 abbrev pub rowWords : Row → List ℕ
 rowWords r = r .high ∷ r .low ∷ []
 
+abbrev pub rowOf : ℕ → ℕ → Row
+rowOf high low = record { high = high; low = low }
+
+abbrev pub rowFrom : ℕ → (ℕ → ℕ) → Row
+rowFrom base word = rowOf (word base) (word (base + 1))
+
 -- "clock high, clock low, timer"
 abbrev pub clockWords : Clock → List ℕ
 clockWords c = c .high ∷ c .low ∷ c .timer ∷ []
+
+abbrev pub clockFrom : ℕ → (ℕ → ℕ) → Clock
+clockFrom base word = record { high = word base; low = word (base + 1); timer = word (base + 2) }
 
 -- "time scale, printer delay, installed map"
 abbrev pub settingsWords : Settings → List ℕ
 settingsWords s = s .scale ∷ s .delay ∷ s .installed ∷ []
 
+abbrev pub settingsFrom : ℕ → (ℕ → ℕ) → Settings
+settingsFrom base word = record { scale = word base; delay = word (base + 1); installed = word (base + 2) }
+
 -- "(STATUS, COMMAND, DATA0, ticks left, paper count)"
 abbrev pub printerWords : Printer → List ℕ
 printerWords p = p .status ∷ p .command ∷ p .data0 ∷ p .left ∷ p .count ∷ []
+
+abbrev pub printerFrom : ℕ → (ℕ → ℕ) → Printer
+printerFrom base word =
+    record { status = word base; command = word (base + 1); data0 = word (base + 2); left = word (base + 3); count = word (base + 4) }
 
 -- "steps on hand, next slot"
 abbrev pub journalWords : Journal → List ℕ
 journalWords j = j .«on_hand» ∷ j .«next_slot» ∷ []
 
--- 31 + 12 + 32 + 3 + 3 + 40 + 1 + 2 = 124 words
-unfoldable pub wordsOf : Machine → List ℕ
-wordsOf m =
-    drop 1 (m .cpu .regs)
-    ++ (coreWords (m .cpu .core)
-    ++ (flat rowWords (m .cpu .tlb)
-    ++ (clockWords (m .board .clock)
-    ++ (settingsWords (m .board .settings)
-    ++ (flat printerWords (m .board .line .printers)
-    ++ (m .board .line .pending ∷ journalWords (m .journal)))))))
+abbrev pub journalFrom : ℕ → (ℕ → ℕ) → Journal
+journalFrom base word = record { «on_hand» = word base; «next_slot» = word (base + 1) }
 
--- the length word 497 and the version 1
+-- ---- THE layout: groups of words, one after the other, so that a version adds a group
+
+abbrev pub groupsOf : Machine → List (List ℕ)
+groupsOf m =
+    -- "registers 1 to 31"
+    drop 1 (m .cpu .regs)
+    -- "HI, LO, PC, next PC, Index, .., EPC"
+    ∷ coreWords (m .cpu .core)
+    -- "16 TLB pairs (high, low)"
+    ∷ flat rowWords (m .cpu .tlb)
+    ∷ clockWords (m .board .clock)
+    ∷ settingsWords (m .board .settings)
+    -- "eight printers of (STATUS, COMMAND, DATA0, ticks left, paper count)"
+    ∷ flat printerWords (m .board .line .printers)
+    -- "pending map"
+    ∷ (m .board .line .pending ∷ [])
+    ∷ journalWords (m .journal)
+    ∷ []
+
+unfoldable pub wordsOf : Machine → List ℕ
+wordsOf m = joined (groupsOf m)
+
+-- the word that each group but the first starts at: behind the group before it
+abbrev pub coreBase : ℕ
+coreBase = 31
+
+abbrev pub tableBase : ℕ
+tableBase = coreBase + 12
+
+abbrev pub clockBase : ℕ
+clockBase = tableBase + 2 * tableSize
+
+abbrev pub settingsBase : ℕ
+settingsBase = clockBase + 3
+
+abbrev pub printersBase : ℕ
+printersBase = settingsBase + 3
+
+abbrev pub pendingBase : ℕ
+pendingBase = printersBase + 5 * devices
+
+abbrev pub journalBase : ℕ
+journalBase = pendingBase + 1
+
+-- 124 words
+abbrev pub imageWords : ℕ
+imageWords = journalBase + 2
+
+-- "497, the bytes after it": the version byte and the words
+abbrev pub bodyLength : ℕ
+bodyLength = 1 + 4 * imageWords
+
+-- 501 bytes
+abbrev pub imageLength : ℕ
+imageLength = 4 + bodyLength
+
+-- "a length word (497, the bytes after it), a version byte (1)"
 abbrev pub header : List ℕ
-header = wordBytes 497 ++ (1 ∷ [])
+header = wordBytes bodyLength ++ (1 ∷ [])
 
 unfoldable pub bytesOf : Machine → List ℕ
 bytesOf m = header ++ flat wordBytes (wordsOf m)
 
--- ---- words as a machine: word k is `word k`
-
-abbrev pub cp0At : (ℕ → ℕ) → Cp0
-cp0At word =
-    record {
-      index = word 35;
-      random = word 36;
-      «entry_hi» = word 37;
-      «entry_lo» = word 38;
-      «bad_vaddr» = word 39;
-      status = word 40;
-      cause = word 41;
-      epc = word 42;
-    }
-
-abbrev pub coreAt : (ℕ → ℕ) → Core
-coreAt word = record { hi = word 31; lo = word 32; pc = word 33; «next_pc» = word 34; cp0 = cp0At word }
+-- ---- words as a machine
 
 abbrev pub rowAt : (ℕ → ℕ) → ℕ → Row
-rowAt word i = record { high = word (2 * i + 43); low = word (2 * i + 44) }
+rowAt word i = rowFrom (2 * i + tableBase) word
 
 abbrev pub cpuAt : (ℕ → ℕ) → Cpu
-cpuAt word = record { regs = 0 ∷ tabulate 31 word; core = coreAt word; tlb = tabulate 16 (rowAt word) }
-
-abbrev pub clockAt : (ℕ → ℕ) → Clock
-clockAt word = record { high = word 75; low = word 76; timer = word 77 }
-
-abbrev pub settingsAt : (ℕ → ℕ) → Settings
-settingsAt word = record { scale = word 78; delay = word 79; installed = word 80 }
+cpuAt word = record { regs = 0 ∷ tabulate coreBase word; core = coreFrom coreBase word; tlb = tabulate tableSize (rowAt word) }
 
 abbrev pub printerAt : (ℕ → ℕ) → ℕ → Printer
-printerAt word i =
-    record {
-      status = word (5 * i + 81);
-      command = word (5 * i + 82);
-      data0 = word (5 * i + 83);
-      left = word (5 * i + 84);
-      count = word (5 * i + 85);
-    }
+printerAt word i = printerFrom (5 * i + printersBase) word
 
 abbrev pub lineAt : (ℕ → ℕ) → Line
-lineAt word = record { printers = tabulate 8 (printerAt word); pending = word 121 }
+lineAt word = record { printers = tabulate devices (printerAt word); pending = word pendingBase }
 
 abbrev pub boardAt : (ℕ → ℕ) → Board
-boardAt word = record { clock = clockAt word; settings = settingsAt word; line = lineAt word }
-
-abbrev pub journalAt : (ℕ → ℕ) → Journal
-journalAt word = record { «on_hand» = word 122; «next_slot» = word 123 }
+boardAt word = record { clock = clockFrom clockBase word; settings = settingsFrom settingsBase word; line = lineAt word }
 
 unfoldable pub machineAt : (ℕ → ℕ) → Machine
-machineAt word = record { cpu = cpuAt word; board = boardAt word; journal = journalAt word }
+machineAt word = record { cpu = cpuAt word; board = boardAt word; journal = journalFrom journalBase word }
 
--- word k of a body, the 496 bytes after the header
+-- word k of a body, the bytes after the header
 abbrev pub bodyWord : List ℕ → ℕ → ℕ
 bodyWord body k = wordAt body (4 * k)
 
@@ -130,8 +180,8 @@ machineOf bytes = machineAt (bodyWord (drop 5 bytes))
 -- the arrays have their lengths
 pub record Sized (m : Machine) : Type 0 where
   pub regs : length (m .cpu .regs) ≡ 32
-  pub tlb : length (m .cpu .tlb) ≡ 16
-  pub printers : length (m .board .line .printers) ≡ 8
+  pub tlb : length (m .cpu .tlb) ≡ tableSize
+  pub printers : length (m .board .line .printers) ≡ devices
 
 -- and register 0 is 0, and every word is a word
 pub record WellTyped (m : Machine) : Type 0 where

@@ -1,10 +1,10 @@
 // From bytes to a machine. `body` is the 496 bytes after the length word and the version.
 ghost use mathlib.Core.Path.{_≡_};
-ghost use Prim.Native.Nat.{_<_};
+ghost use Prim.Native.Nat.{_+_, _<_};
 ghost use lib.ListN.{length};
 ghost use mathlib.Core.List.{_∷_};
 ghost use Rattle.word.specs.Lists.{tabulate};
-ghost use Rattle.state.specs.Layout.{bodyWord, cp0At, coreAt, rowAt, cpuAt, clockAt, settingsAt, printerAt, lineAt, boardAt, journalAt, machineAt, machineOf};
+ghost use Rattle.state.specs.Layout.{cp0From, coreFrom, clockFrom, settingsFrom, journalFrom, coreBase, clockBase, settingsBase, journalBase, bodyWord, rowAt, cpuAt, printerAt, lineAt, boardAt, machineAt, machineOf};
 use crate::machine::Board;
 use crate::machine::Core;
 use crate::machine::Cpu;
@@ -36,7 +36,7 @@ fn registers(body: &[u8]) -> [u32; 32]
 
 fn cp0(body: &[u8]) -> Cp0
     requires { ⌜ length (now body) ≡ 496 ⌝ }
-    ensures { λ r. ⌜ r ≡ cp0At (bodyWord (now (body .entry))) ⌝ }
+    ensures { λ r. ⌜ r ≡ cp0From (coreBase + 4) (bodyWord (now (body .entry))) ⌝ }
 {
     Cp0 {
         index: word(body, 35),
@@ -52,7 +52,7 @@ fn cp0(body: &[u8]) -> Cp0
 
 fn core(body: &[u8]) -> Core
     requires { ⌜ length (now body) ≡ 496 ⌝ }
-    ensures { λ r. ⌜ r ≡ coreAt (bodyWord (now (body .entry))) ⌝ }
+    ensures { λ r. ⌜ r ≡ coreFrom coreBase (bodyWord (now (body .entry))) ⌝ }
 {
     Core {
         hi: word(body, 31),
@@ -68,9 +68,10 @@ fn row(body: &[u8], i: usize) -> Row
     requires { ⌜ i < 16 ⌝ }
     ensures { λ r. ⌜ r ≡ rowAt (bodyWord (now (body .entry))) i ⌝ }
 {
+    let at = 2 * i + 43;
     Row {
-        high: word(body, 2 * i + 43),
-        low: word(body, 2 * i + 44),
+        high: word(body, at),
+        low: word(body, at + 1),
     }
 }
 
@@ -98,7 +99,7 @@ fn cpu(body: &[u8]) -> Cpu
 
 fn clock(body: &[u8]) -> Clock
     requires { ⌜ length (now body) ≡ 496 ⌝ }
-    ensures { λ r. ⌜ r ≡ clockAt (bodyWord (now (body .entry))) ⌝ }
+    ensures { λ r. ⌜ r ≡ clockFrom clockBase (bodyWord (now (body .entry))) ⌝ }
 {
     Clock {
         high: word(body, 75),
@@ -109,7 +110,7 @@ fn clock(body: &[u8]) -> Clock
 
 fn settings(body: &[u8]) -> Settings
     requires { ⌜ length (now body) ≡ 496 ⌝ }
-    ensures { λ r. ⌜ r ≡ settingsAt (bodyWord (now (body .entry))) ⌝ }
+    ensures { λ r. ⌜ r ≡ settingsFrom settingsBase (bodyWord (now (body .entry))) ⌝ }
 {
     Settings {
         scale: word(body, 78),
@@ -123,12 +124,13 @@ fn printer(body: &[u8], i: usize) -> Printer
     requires { ⌜ i < 8 ⌝ }
     ensures { λ r. ⌜ r ≡ printerAt (bodyWord (now (body .entry))) i ⌝ }
 {
+    let at = 5 * i + 81;
     Printer {
-        status: word(body, 5 * i + 81),
-        command: word(body, 5 * i + 82),
-        data0: word(body, 5 * i + 83),
-        left: word(body, 5 * i + 84),
-        count: word(body, 5 * i + 85),
+        status: word(body, at),
+        command: word(body, at + 1),
+        data0: word(body, at + 2),
+        left: word(body, at + 3),
+        count: word(body, at + 4),
     }
 }
 
@@ -175,7 +177,7 @@ fn board(body: &[u8]) -> Board
 
 fn journal(body: &[u8]) -> Journal
     requires { ⌜ length (now body) ≡ 496 ⌝ }
-    ensures { λ r. ⌜ r ≡ journalAt (bodyWord (now (body .entry))) ⌝ }
+    ensures { λ r. ⌜ r ≡ journalFrom journalBase (bodyWord (now (body .entry))) ⌝ }
 {
     Journal {
         on_hand: word(body, 122),

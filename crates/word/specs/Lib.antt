@@ -4,3 +4,4 @@ pub mod Number
 pub mod Big
 pub mod Little
 pub mod Mask
+pub mod Sizes

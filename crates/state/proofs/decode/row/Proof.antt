@@ -3,20 +3,17 @@ use borrow.Author.Needs.{needs}
 use Rattle.state.proofs.decode.row.Statement.{statement}
 use Rattle.state.proofs.decode.row.Tie as tie
 
-mul-word : tie.Need-mul-word
-mul-word c = search needs
+mul-at : tie.Need-mul-at
+mul-at c = search needs
 
-add-word : tie.Need-add-word
-add-word c = search needs
+add-at : tie.Need-add-at
+add-at c = search needs
 
 word-requires : tie.Need-word-requires
 word-requires c κs = search needs
 
-mul-word-2 : tie.Need-mul-word-2
-mul-word-2 c = search needs
-
-add-word-2 : tie.Need-add-word-2
-add-word-2 c = search needs
+add-word : tie.Need-add-word
+add-word c = search needs
 
 word-requires-2 : tie.Need-word-requires-2
 word-requires-2 c κs = search needs
@@ -27,4 +24,10 @@ returns c = cc
 pub row-spec : {M : Type 1} → statement M
 row-spec =
     tie.close
-    (tie.spec mul-word add-word word-requires mul-word-2 add-word-2 word-requires-2 returns)
+    (tie.spec
+    mul-at
+    add-at
+    word-requires
+    add-word
+    word-requires-2
+    returns)
