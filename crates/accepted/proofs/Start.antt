@@ -9,11 +9,11 @@ use lib.Dec.{eqb, leb, ltb}
 use lib.ListN.{length}
 use Rattle.word.specs.Lists.{flat, Below}
 use Rattle.word.specs.Big.{wordBytes}
+use Rattle.word.specs.Number.{between}
 use Rattle.word.proofs.Cond.{both, and-true}
 use Rattle.word.proofs.Lists.{below-nil, below-append, below-numerals}
 use Rattle.ring.specs.Slots.{Ring, Sound}
 use Rattle.board.specs.Rom.{fitOf}
-use Rattle.printer.specs.Rules.{between}
 use Rattle.journal.specs.Journal.{slotsOf, ringOf}
 use Rattle.state.specs.Layout.{journalWords, wordsOf, header, bytesOf, machineOf, WellTyped}
 use Rattle.state.specs.declared.machine.Machine.{Machine}

@@ -4,13 +4,13 @@ use mathlib.Core.Bool.{Bool, cond}
 use lib.Dec.{ltb}
 use lib.IntN.{ℤ, pos, _+ℤ_, _-ℤ_}
 use lib.Signed.{ltZ}
-use Rattle.word.specs.Number.{signed, bits, extended, within}
+use Rattle.word.specs.Number.{signed, bits, extended, fits}
 use Rattle.alu.specs.declared.sum.Added.{Added}
 use Rattle.alu.specs.declared.sum.Added.the-variants.{Sum, Overflow}
 
 -- the word that stands for z, where there is one
 abbrev pub exactly : ℤ → Added
-exactly z = cond (within (2 ^ 31) z) (Sum (bits 32 z)) Overflow
+exactly z = cond (fits (2 ^ 31) z) (Sum (bits 32 z)) Overflow
 
 abbrev pub addOf : ℕ → ℕ → Added
 addOf x y = exactly (signed 32 x +ℤ signed 32 y)

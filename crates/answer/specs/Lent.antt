@@ -2,8 +2,8 @@
 use Prim.Native.Nat.{ℕ, _/_, _%_}
 use mathlib.Core.Bool.{Bool, cond, _&&_}
 use lib.Dec.{eqb, leb}
+use Rattle.word.specs.Number.{between}
 use Rattle.board.specs.Rom.{fitOf}
-use Rattle.printer.specs.Rules.{between}
 use Rattle.answer.specs.declared.Refusal.the-variants.{Ram, Rom, Paper, Journal}
 use Rattle.answer.specs.declared.lent.Test.{Test}
 use Rattle.answer.specs.declared.lent.Test.the-variants.{Passed, Failed}

@@ -8,6 +8,7 @@ use lib.Dec.{eqb, lit<}
 use Prim.{tt}
 use Rattle.word.specs.Map.{bit}
 use Rattle.word.specs.Mask.{overlaidOf}
+use Rattle.word.specs.Number.{between}
 use Rattle.word.proofs.Cond.{picked}
 use Rattle.word.proofs.Masks.{field-taken, field-kept, overlaid-within}
 use Rattle.word.proofs.Within.{BitsIn}
@@ -16,11 +17,11 @@ use Rattle.cp0.specs.declared.entry.Exception.{Exception}
 use Rattle.cp0.specs.Privilege.{modeOf}
 use Rattle.cp0.specs.Interrupt.{ip, im, interruptsOf}
 use Rattle.cp0.specs.Stack.{pushedStack}
-use Rattle.cp0.specs.Word.{modesOf, between, vmOf, pushedOf}
-use Rattle.cp0.specs.Entry.{among, pageMask, entryMask, excCode, ceOf, fieldsOf, causeOf, entryHiOf, enteredOf}
+use Rattle.cp0.specs.Word.{modesOf, middle, vmOf, pushedOf}
+use Rattle.cp0.specs.Entry.{pageMask, entryMask, excCode, ceOf, fieldsOf, causeOf, entryHiOf, enteredOf}
 use Rattle.cp0.specs.Written.{statusMask}
 use Rattle.cp0.proofs.StatusBits.{pushed-within}
-use Rattle.cp0.proofs.Parts.{modes-of-word, between-of-word, vm-of-word}
+use Rattle.cp0.proofs.Parts.{modes-of-word, middle-of-word, vm-of-word}
 
 bit-off : (k word : ℕ) → word / 2 ^ k % 2 ≡ 0 → bit k word ≡ false
 bit-off k word none = rw none
@@ -66,12 +67,12 @@ module _ (e : Exception) (pc : ℕ) (c : Cp0) where
   vm = vm-of-word _ _ _ _ (omega arith) (omega arith) (omega arith)
 
   -- bits 6-23
-  pub between-kept : between (after .status) ≡ between (c .status)
+  pub middle-kept : middle (after .status) ≡ middle (c .status)
   unfolding enteredOf pushedOf
-  between-kept = between-of-word _ _ _ _ (omega arith) (omega arith) (omega arith)
+  middle-kept = middle-of-word _ _ _ _ (omega arith) (omega arith) (omega arith)
 
   pub im-kept : im (after .status) ≡ im (c .status)
-  im-kept = let same = between-kept in omega arith
+  im-kept = let same = middle-kept in omega arith
 
   -- kernel mode, without translation
   pub kernel : modeOf (after .status) ≡ record { user = false; vm = false }
@@ -92,9 +93,9 @@ module _ (e : Exception) (pc : ℕ) (c : Cp0) where
   pub low-kept : after .«entry_hi» % 2 ^ 12 ≡ c .«entry_hi» % 2 ^ 12
   unfolding enteredOf entryHiOf overlaidOf
   low-kept =
-      picked (λ x. x % 2 ^ 12 ≡ c .«entry_hi» % 2 ^ 12) (among 1 3 (e .code)) _ _ (λ on. omega (arith, field-kept 32 pageMask (c .«entry_hi») (e .address) 0 12 refl refl)) (λ off. refl)
+      picked (λ x. x % 2 ^ 12 ≡ c .«entry_hi» % 2 ^ 12) (between 1 3 (e .code)) _ _ (λ on. omega (arith, field-kept 32 pageMask (c .«entry_hi») (e .address) 0 12 refl refl)) (λ off. refl)
 
-  pub page-loaded : among 1 3 (e .code) ≡ true → after .«entry_hi» / 2 ^ 12 % 2 ^ 20 ≡ e .address / 2 ^ 12 % 2 ^ 20
+  pub page-loaded : between 1 3 (e .code) ≡ true → after .«entry_hi» / 2 ^ 12 % 2 ^ 20 ≡ e .address / 2 ^ 12 % 2 ^ 20
   unfolding enteredOf entryHiOf overlaidOf
   page-loaded on = rw on (field-taken 32 pageMask (c .«entry_hi») (e .address) 12 20 refl refl)
 
@@ -110,4 +111,4 @@ module _ (e : Exception) (pc : ℕ) (c : Cp0) where
   pub entry-hi-within : (m : ℕ) → BitsIn 32 m (c .«entry_hi») → BitsIn 32 m pageMask → BitsIn 32 m (after .«entry_hi»)
   unfolding enteredOf entryHiOf overlaidOf
   entry-hi-within m within page =
-      picked (BitsIn 32 m) (among 1 3 (e .code)) _ _ (λ on. overlaid-within 32 pageMask (c .«entry_hi») (e .address) (lit< tt) m within page) (λ off. within)
+      picked (BitsIn 32 m) (between 1 3 (e .code)) _ _ (λ on. overlaid-within 32 pageMask (c .«entry_hi») (e .address) (lit< tt) m within page) (λ off. within)

@@ -9,12 +9,12 @@ use Rattle.word.proofs.Within.{BitsIn}
 use Rattle.word.proofs.BitLaws.{shr-bit, low-bit}
 use Rattle.cp0.specs.declared.status.Status.{Status}
 use Rattle.cp0.specs.Stack.{pushedStack, poppedStack}
-use Rattle.cp0.specs.Word.{modesOf, between, vmOf, above, moved, pushedOf, poppedOf}
+use Rattle.cp0.specs.Word.{modesOf, middle, vmOf, above, moved, pushedOf, poppedOf}
 use Rattle.cp0.specs.Written.{statusMask}
-use Rattle.cp0.proofs.Parts.{between-of-word, above-of-word}
+use Rattle.cp0.proofs.Parts.{middle-of-word, above-of-word}
 
-between-at : (k word : ℕ) → k < 18 → bit k (between word) ≡ bit (6 + k) word
-between-at k word h = low-bit 18 k (word / 2 ^ 6) h ∙ shr-bit 6 k word
+middle-at : (k word : ℕ) → k < 18 → bit k (middle word) ≡ bit (6 + k) word
+middle-at k word h = low-bit 18 k (word / 2 ^ 6) h ∙ shr-bit 6 k word
 
 module _ (rule : ℕ → ℕ → ℕ) (s : Status) (hm : rule 4 (modesOf (s .word)) < 2 ^ 6) (hv : rule 2 (vmOf (s .word)) < 2 ^ 3) where
   abbrev was : ℕ
@@ -23,17 +23,17 @@ module _ (rule : ℕ → ℕ → ℕ) (s : Status) (hm : rule 4 (modesOf (s .wor
   abbrev now : ℕ
   now = moved rule s .word
 
-  between-bit : (k : ℕ) → 6 ≤ k → k < 24 → bit k now ≡ bit k was
-  between-bit k low high =
-      let same : between now ≡ between was = between-of-word (rule 4 (modesOf was)) (between was) (rule 2 (vmOf was)) (above was) hm (omega arith) hv in
+  middle-bit : (k : ℕ) → 6 ≤ k → k < 24 → bit k now ≡ bit k was
+  middle-bit k low high =
+      let same : middle now ≡ middle was = middle-of-word (rule 4 (modesOf was)) (middle was) (rule 2 (vmOf was)) (above was) hm (omega arith) hv in
       let e : 6 + (k - 6) ≡ k = omega arith in
       let here : bit (6 + (k - 6)) now ≡ bit (6 + (k - 6)) was =
-      sym (between-at (k - 6) now (omega arith)) ∙ rw same (between-at (k - 6) was (omega arith)) in
+      sym (middle-at (k - 6) now (omega arith)) ∙ rw same (middle-at (k - 6) was (omega arith)) in
       rw e at here
 
   above-bit : (k : ℕ) → 27 ≤ k → bit k now ≡ bit k was
   above-bit k low =
-      let same : above now ≡ above was = above-of-word (rule 4 (modesOf was)) (between was) (rule 2 (vmOf was)) (above was) hm (omega arith) hv in
+      let same : above now ≡ above was = above-of-word (rule 4 (modesOf was)) (middle was) (rule 2 (vmOf was)) (above was) hm (omega arith) hv in
       let e : 27 + (k - 27) ≡ k = omega arith in
       let here : bit (27 + (k - 27)) now ≡ bit (27 + (k - 27)) was = sym (shr-bit 27 (k - 27) now) ∙ rw same (shr-bit 27 (k - 27) was) in
       rw e at here
@@ -46,7 +46,7 @@ module _ (rule : ℕ → ℕ → ℕ) (s : Status) (hm : rule 4 (modesOf (s .wor
           | yes l ↦ low k l
           | no l ↦
               elim (decLt k 24) [
-                | yes b ↦ within k h (sym (between-bit k (omega arith) b) ∙ on)
+                | yes b ↦ within k h (sym (middle-bit k (omega arith) b) ∙ on)
                 | no b ↦
                     elim (decLt k 27) [
                       | yes v ↦ let e : 24 + (k - 24) ≡ k = omega arith in rw e at (vm (k - 24) (omega arith))

@@ -1,19 +1,16 @@
 -- Document 01, "Exception entry": "EPC takes PC, ExcCode is set, BD 0, CE the coprocessor for code 11 and 0 otherwise. Low six Status bits become themselves
 -- times 4 modulo 64; VM bits 24-26 times 2 modulo 8. BadVAddr is loaded for codes 1 to 5, the top 20 bits of EntryHi for 1 to 3."
 use Prim.Native.Nat.{ℕ, _+_, _*_, _/_, _%_, _^_}
-use mathlib.Core.Bool.{Bool, cond, _&&_}
-use lib.Dec.{eqb, leb}
+use mathlib.Core.Bool.{Bool, cond}
+use lib.Dec.{eqb}
 use Rattle.word.specs.Map.{bit}
 use Rattle.word.specs.Mask.{overlaidOf}
+use Rattle.word.specs.Number.{between}
 use Rattle.isa.specs.declared.instr.ControlRegister.the-variants.{Status}
 use Rattle.cp0.specs.declared.registers.Cp0.{Cp0}
 use Rattle.cp0.specs.declared.entry.Exception.{Exception}
 use Rattle.cp0.specs.Registers.{withRegister}
 use Rattle.cp0.specs.Word.{pushedOf, poppedOf}
-
--- first ≤ code ≤ last
-abbrev pub among : ℕ → ℕ → ℕ → Bool
-among first last code = leb first code && leb code last
 
 -- bits 12-31
 abbrev pub pageMask : ℕ
@@ -37,10 +34,10 @@ unfoldable pub causeOf : Exception → ℕ → ℕ
 causeOf e old = overlaidOf entryMask old (fieldsOf e)
 
 unfoldable pub badVAddrOf : Exception → ℕ → ℕ
-badVAddrOf e old = cond (among 1 5 (e .code)) (e .address) old
+badVAddrOf e old = cond (between 1 5 (e .code)) (e .address) old
 
 unfoldable pub entryHiOf : Exception → ℕ → ℕ
-entryHiOf e old = cond (among 1 3 (e .code)) (overlaidOf pageMask old (e .address)) old
+entryHiOf e old = cond (between 1 3 (e .code)) (overlaidOf pageMask old (e .address)) old
 
 unfoldable pub enteredOf : Exception → ℕ → Cp0 → Cp0
 enteredOf e pc c =

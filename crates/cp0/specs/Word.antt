@@ -6,8 +6,8 @@ use Rattle.cp0.specs.declared.status.Status.{Status}
 abbrev pub modesOf : ℕ → ℕ
 modesOf word = word % 2 ^ 6
 
-abbrev pub between : ℕ → ℕ
-between word = word / 2 ^ 6 % 2 ^ 18
+abbrev pub middle : ℕ → ℕ
+middle word = word / 2 ^ 6 % 2 ^ 18
 
 abbrev pub vmOf : ℕ → ℕ
 vmOf word = word / 2 ^ 24 % 2 ^ 3
@@ -20,7 +20,7 @@ wordOf m n v a = m + n * 2 ^ 6 + v * 2 ^ 24 + a * 2 ^ 27
 
 -- a Status with other stacks, all else kept
 abbrev pub withStacks : Status → ℕ → ℕ → Status
-withStacks s modes vm = record { word = wordOf modes (between (s .word)) vm (above (s .word)) }
+withStacks s modes vm = record { word = wordOf modes (middle (s .word)) vm (above (s .word)) }
 
 -- both stacks moved by the same rule
 abbrev pub moved : (ℕ → ℕ → ℕ) → Status → Status

@@ -1,6 +1,7 @@
 // Exception entry and RFE: what becomes of CP0, and where PC goes.
 ghost use mathlib.Core.Path.{_≡_};
-ghost use Rattle.cp0.specs.Entry.{among, entryHiOf, badVAddrOf, causeOf, enteredOf, vectorOf, returnedOf};
+ghost use Rattle.word.specs.Number.{between};
+ghost use Rattle.cp0.specs.Entry.{entryHiOf, badVAddrOf, causeOf, enteredOf, vectorOf, returnedOf};
 use crate::registers::Cp0;
 use crate::status::Status;
 use word::map::has_bit;
@@ -40,8 +41,8 @@ pub fn entered(c: Cp0, e: Exception, pc: u32) -> Cp0
     }
 }
 
-fn among(first: u32, last: u32, code: u32) -> bool
-    ensures { λ r. ⌜ r ≡ among first last code ⌝ }
+fn between(first: u32, last: u32, code: u32) -> bool
+    ensures { λ r. ⌜ r ≡ between first last code ⌝ }
 {
     (first <= code) & (code <= last)
 }
@@ -49,7 +50,7 @@ fn among(first: u32, last: u32, code: u32) -> bool
 fn entry_hi(e: Exception, old: u32) -> u32
     ensures { λ r. ⌜ r ≡ entryHiOf e old ⌝ }
 {
-    if among(1, 3, e.code) {
+    if between(1, 3, e.code) {
         return overlaid(PAGE, old, e.address);
     }
     old
@@ -58,7 +59,7 @@ fn entry_hi(e: Exception, old: u32) -> u32
 fn bad_vaddr(e: Exception, old: u32) -> u32
     ensures { λ r. ⌜ r ≡ badVAddrOf e old ⌝ }
 {
-    if among(1, 5, e.code) {
+    if between(1, 5, e.code) {
         return e.address;
     }
     old

@@ -44,10 +44,10 @@ impl Status {
         requires { ⌜ (modes < 64) × (vm < 8) ⌝ }
         ensures { λ r. ⌜ r ≡ withStacks self modes vm ⌝ }
     {
-        let between = self.word / 64 % 0x40000;
+        let middle = self.word / 64 % 0x40000;
         let above = self.word / 0x8000000;
         Status {
-            word: modes + between * 64 + vm * 0x1000000 + above * 0x8000000,
+            word: modes + middle * 64 + vm * 0x1000000 + above * 0x8000000,
         }
     }
 }

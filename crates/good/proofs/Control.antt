@@ -5,12 +5,12 @@ use mathlib.Core.Bool.{true}
 use native.Mathlib.Omega.{arith}
 use borrow.Author.Tests.{leb-true, le-leb, eq-eqb}
 use lib.Dec.{eqb, leb}
+use Rattle.word.specs.Number.{between}
 use Rattle.word.proofs.Cond.{both, and-true}
 use Rattle.cp0.specs.Random.{field, topEntry, randomOf}
 use Rattle.cp0.specs.declared.registers.Cp0.{Cp0}
 use Rattle.cp0.proofs.Randoms.{InTable, random-stays}
 use Rattle.printer.specs.Cause.{shownOf}
-use Rattle.printer.specs.Rules.{between}
 use Rattle.state.specs.Layout.{cp0Words, coreWords}
 use Rattle.state.specs.declared.machine.Core.{Core}
 use Rattle.rules.specs.Rules.{randomKeeps}

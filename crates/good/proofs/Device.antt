@@ -8,6 +8,7 @@ use borrow.Author.Tests.{leb-true}
 use lib.Dec.{eqb, leb}
 use lib.ListN.{getD}
 use Rattle.word.specs.Lists.{Below}
+use Rattle.word.specs.Number.{between}
 use Rattle.word.proofs.Cond.{both, picked}
 use Rattle.board.specs.declared.places.Sizes.{Sizes}
 use Rattle.bus.specs.Offset.{isDevice, lineOf, numberOf, fieldOf}
@@ -18,7 +19,6 @@ use Rattle.bus.specs.declared.store.Store.{Store}
 use Rattle.bus.specs.declared.store.Store.the-variants.{Nothing, Timer, Command, Data}
 use Rattle.bus.proofs.Stores.{store-keeps}
 use Rattle.cp0.specs.Registers.{withRegister}
-use Rattle.printer.specs.Rules.{between}
 use Rattle.printer.specs.Tick.{noPrinter}
 use Rattle.printer.specs.declared.Line.{Line}
 use Rattle.state.specs.Layout.{clockWords, settingsWords, printerWords}

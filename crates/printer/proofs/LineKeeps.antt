@@ -12,6 +12,7 @@ use lib.ListN.{length, getD, set, length-set}
 use lib.Seq.{getD-set-same, getD-set-other}
 use Rattle.word.specs.Lists.{every}
 use Rattle.word.specs.Map.{bit, withBit}
+use Rattle.word.specs.Mask.{within}
 use Rattle.word.proofs.BitLaws.{low-bit}
 use Rattle.word.proofs.Cond.{both, and-true}
 use Rattle.word.proofs.Maps.{bit-told, bit-other, bit-kept}
@@ -20,7 +21,7 @@ use Rattle.printer.specs.declared.Printer.{Printer}
 use Rattle.printer.specs.declared.Line.{Line}
 use Rattle.printer.specs.Tick.{Printing, noPrinter, isBusy, finishes, roomOf, tickedOf}
 use Rattle.printer.specs.Command.{isIllegal, commandedOf, withData, takesWrites, commandOf, dataOf}
-use Rattle.printer.specs.Rules.{within, printerKeeps, printerKeepsAt, Keeps, lineKeeps}
+use Rattle.printer.specs.Rules.{printerKeeps, printerKeepsAt, Keeps, lineKeeps}
 use Rattle.printer.proofs.Each.{all-hold, each-holds}
 use Rattle.printer.proofs.Passed.{old, room-ticks, length-printers, passed, pending-before, pending-passed}
 use Rattle.printer.proofs.PrinterKeeps.{Present, present, absent-idle, ticked-keeps, commanded-keeps, with-data-keeps}

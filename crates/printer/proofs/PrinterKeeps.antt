@@ -5,11 +5,12 @@ use mathlib.Core.Bool.{Bool, true, false, not, _&&_, _||_, cond}
 use native.Mathlib.Omega.{arith}
 use borrow.Author.Tests.{leb-true, leb-false, ltb-true, le-leb, eqb-true}
 use lib.Dec.{eqb, leb, ltb}
+use Rattle.word.specs.Number.{between}
 use Rattle.word.proofs.Cond.{both, and-true}
 use Rattle.printer.specs.declared.Printer.{Printer}
 use Rattle.printer.specs.Tick.{isBusy, finishes, endedWith, fallen, finishedOf, printerTicked}
 use Rattle.printer.specs.Command.{startsWork, isAck, isIllegal, commandedOf, withData}
-use Rattle.printer.specs.Rules.{between, absentKeeps, workKeeps, presentKeeps, printerKeeps}
+use Rattle.printer.specs.Rules.{absentKeeps, workKeeps, presentKeeps, printerKeeps}
 
 -- what an installed printer's rules say
 pub record Present (pending : Bool) (delay room : ℕ) (p : Printer) : Type 0 where

@@ -1,23 +1,17 @@
 -- Document 01, "Rules", of the pending map and the printers: what every image keeps.
-use Prim.Native.Nat.{ℕ, _-_, _<_}
+use Prim.Native.Nat.{ℕ, _<_}
 use mathlib.Core.Path.{_≡_}
 use mathlib.Core.Bool.{Bool, true, not, _&&_, _||_, cond}
-use lib.Bits.{bitAnd}
 use lib.Dec.{eqb, leb}
 use lib.ListN.{length, getD}
 use Rattle.word.specs.Lists.{every}
 use Rattle.word.specs.Sizes.{devices}
+use Rattle.word.specs.Mask.{within}
+use Rattle.word.specs.Number.{between}
 use Rattle.printer.specs.declared.Printer.{Printer}
 use Rattle.printer.specs.declared.Line.{Line}
 use Rattle.word.specs.Map.{bit}
 use Rattle.printer.specs.Tick.{noPrinter, isBusy}
-
-abbrev pub between : ℕ → ℕ → ℕ → Bool
-between low high x = leb low x && leb x high
-
--- no bit of x lies outside the mask
-abbrev pub within : ℕ → ℕ → Bool
-within mask x = eqb (bitAnd x (0xFFFFFFFF - mask)) 0
 
 -- "an uninstalled printer is all 0"
 abbrev pub absentKeeps : Printer → Bool

@@ -6,9 +6,9 @@ use native.Mathlib.Omega.{arith}
 use borrow.Author.Tests.{le-leb, leb-true}
 use lib.Dec.{eqb, leb}
 use Rattle.word.specs.Map.{bit}
+use Rattle.word.specs.Mask.{within}
 use Rattle.word.proofs.Cond.{both, and-true}
 use Rattle.cp0.specs.Entry.{excCode}
-use Rattle.printer.specs.Rules.{within}
 use Rattle.rules.specs.Rules.{ip, causeKeeps}
 
 -- all that Cause's fields lie in

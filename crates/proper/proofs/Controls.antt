@@ -5,7 +5,7 @@ use mathlib.Core.List.{List}
 use native.Mathlib.Nat.{mod-lt}
 use native.Mathlib.Omega.{arith}
 use lib.ListN.{length, getD}
-use Rattle.word.specs.Mask.{overlaidOf}
+use Rattle.word.specs.Mask.{within, overlaidOf}
 use Rattle.word.proofs.Cond.{picked}
 use Rattle.isa.specs.declared.instr.Control.{Control}
 use Rattle.isa.specs.declared.instr.Control.the-variants.{Undefined, Mfc0, Mtc0, Tlbr, Tlbwi, Tlbwr, Tlbp, Rfe}
@@ -22,7 +22,6 @@ use Rattle.tlb.specs.Search.{foundIn}
 use Rattle.tlb.specs.declared.Found.{Found}
 use Rattle.tlb.specs.declared.Found.the-variants.{At, Nothing}
 use Rattle.tlb.specs.declared.Row.{Row}
-use Rattle.printer.specs.Rules.{within}
 use Rattle.printer.proofs.Each.{each-holds}
 use Rattle.intend.specs.Control.{writtenWord, poppedWord, functionOf, controlOf}
 use Rattle.intend.specs.Operand.{regOf}

@@ -5,11 +5,12 @@ use mathlib.Core.Path.{_≡_, refl, sym, ap, _∙_}
 use native.Mathlib.Omega.{arith}
 use lib.Dec.{lit<}
 use Rattle.word.specs.Map.{bit}
+use Rattle.word.specs.Number.{between}
 use Rattle.word.proofs.BitLaws.{shr-bit, low-bit}
 use Rattle.word.proofs.Cond.{picked}
 use Rattle.isa.specs.declared.instr.ControlRegister.{ControlRegister}
 use Rattle.isa.specs.declared.instr.ControlRegister.the-variants.{Index, Random, EntryLo, BadVAddr, EntryHi, Status, Cause, Epc}
-use Rattle.cp0.specs.Entry.{among, pageMask, entryMask, fieldsOf, causeOf, badVAddrOf, entryHiOf, enteredOf}
+use Rattle.cp0.specs.Entry.{pageMask, entryMask, fieldsOf, causeOf, badVAddrOf, entryHiOf, enteredOf}
 use Rattle.cp0.specs.Interrupt as interrupt
 use Rattle.cp0.specs.Registers.{readOf}
 use Rattle.cp0.specs.Word.{wordOf, pushedOf, poppedOf}
@@ -79,13 +80,13 @@ module _ (e : Exception) (pc : ℕ) (c : Cp0) (pending : ℕ) (code : e .code �
   bad-address-good : Good BadVAddr pending (badVAddrOf e (c .«bad_vaddr»))
   unfolding badVAddrOf
   bad-address-good =
-      picked (Good BadVAddr pending) (among 1 5 (e .code)) _ _ (λ _. record { small = address; kept = refl }) (λ _. each-of c pending g BadVAddr)
+      picked (Good BadVAddr pending) (between 1 5 (e .code)) _ _ (λ _. record { small = address; kept = refl }) (λ _. each-of c pending g BadVAddr)
 
   entry-good : Good EntryHi pending (entryHiOf e (c .«entry_hi»))
   unfolding entryHiOf
   entry-good =
       let was = each-of c pending g EntryHi in
-      picked (Good EntryHi pending) (among 1 3 (e .code)) _ _
+      picked (Good EntryHi pending) (between 1 3 (e .code)) _ _
       (λ _.
       record {
         small = overlaid-word pageMask entryHiMask (c .«entry_hi») (e .address) (lit< tt) (lit< tt) refl (was .small);

@@ -10,7 +10,7 @@ use lib.Dec.{eqb, ltb}
 use lib.IntN.{ℤ, pos, _+ℤ_, _-ℤ_, _*ℤ_}
 use lib.Pow.{shr-le}
 use lib.Signed.{ltZ, quotZ, remZ, shrZ}
-use Rattle.word.specs.Number.{signed, bits, within, extended}
+use Rattle.word.specs.Number.{signed, bits, fits, extended}
 use Rattle.word.proofs.Cond.{picked}
 use Rattle.alu.proofs.Fits.{product-fits}
 use Rattle.alu.specs.HiLo.{split}
@@ -44,7 +44,7 @@ pub record Halves (words : HiLo) : Type 0 where
   pub lo : words .lo < 2 ^ 32
 
 exactly-word : (z : ℤ) → Summed (exactly z)
-exactly-word z = picked Summed (within (2 ^ 31) z) _ _ (λ _. bits-small 32 z) (λ _. tt)
+exactly-word z = picked Summed (fits (2 ^ 31) z) _ _ (λ _. bits-small 32 z) (λ _. tt)
 
 flag-word : (b : Bool) → flag b < 2 ^ 32
 flag-word b = picked (λ x. x < 2 ^ 32) b 1 0 (λ _. omega arith) (λ _. omega arith)

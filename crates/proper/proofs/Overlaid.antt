@@ -5,13 +5,12 @@ use mathlib.Core.Path.{_≡_, refl, _∙_}
 use mathlib.Core.Bool.{true}
 use native.Mathlib.Omega.{arith}
 use lib.Dec.{lit<}
-use Rattle.word.specs.Mask.{overlaidOf}
+use Rattle.word.specs.Mask.{within, overlaidOf}
 use Rattle.word.proofs.BitLaws.{no-bit}
 use Rattle.word.proofs.Masks.{field-kept, overlaid-bit, overlaid-within, overlaid-small, overlaid-none}
 use Rattle.isa.specs.declared.instr.ControlRegister.{ControlRegister}
 use Rattle.isa.specs.declared.instr.ControlRegister.the-variants.{Index, Random, EntryLo, BadVAddr, EntryHi, Status, Cause, Epc}
 use Rattle.cp0.specs.Written.{maskOf, indexMask, causeMask, statusMask, entryHiMask, entryLoMask}
-use Rattle.printer.specs.Rules.{within}
 use Rattle.rules.specs.Rules.{causeKeeps}
 use Rattle.rules.proofs.Masks.{within-bits, bits-within}
 use Rattle.proper.proofs.Causes.{causeBits, cause-rules, cause-moves}

@@ -6,6 +6,7 @@ use native.Mathlib.Decide.{ℕ-discrete}
 use native.Mathlib.Omega.{arith}
 use lib.ListN.{getD}
 use Rattle.word.specs.Lists.{Below}
+use Rattle.word.specs.Mask.{within}
 use Rattle.word.proofs.Cond.{both, and-true}
 use Rattle.isa.specs.Cop0.{registers}
 use Rattle.isa.specs.Encode.{controlCode}
@@ -17,7 +18,6 @@ use Rattle.cp0.specs.Written.{statusMask, entryHiMask, entryLoMask}
 use Rattle.cp0.specs.declared.registers.Cp0.{Cp0}
 use Rattle.cp0.proofs.Writes.{read-it, read-other}
 use Rattle.tlb.specs.declared.Row.{Row}
-use Rattle.printer.specs.Rules.{within}
 use Rattle.state.specs.Layout.{cp0Words}
 use Rattle.rules.specs.Rules.{causeKeeps, randomKeeps, entryKeeps, cp0Keeps}
 use Rattle.proper.specs.Proper.{ControlGood, RowGood}

@@ -8,8 +8,8 @@ use lib.ListN.{length, getD}
 use Rattle.word.specs.Lists.{every, Below}
 use Rattle.word.specs.Map.{bit}
 use Rattle.word.specs.Sizes.{tableSize, devices}
+use Rattle.word.specs.Number.{between}
 use Rattle.printer.specs.declared.saved.SavedPaper.{SavedPaper}
-use Rattle.printer.specs.Rules.{between}
 use Rattle.record.specs.declared.Record.{Record}
 use Rattle.record.specs.declared.Saved.{Saved}
 use Rattle.record.specs.declared.Saved.the-variants.{Nothing, Register, TlbRow, RamWord}

@@ -6,11 +6,11 @@ use native.Mathlib.Nat.{lt-of-le-of-lt}
 use borrow.Author.Tests.{eqb-true, eq-eqb}
 use lib.Bits.{bitAnd, and-le-r}
 use Rattle.word.specs.Map.{bit}
+use Rattle.word.specs.Mask.{within}
 use Rattle.word.proofs.BitLaws.{and-bit}
 use Rattle.word.proofs.Cond.{both}
 use Rattle.word.proofs.Within as bits
 use Rattle.word.proofs.Within.{BitsIn}
-use Rattle.printer.specs.Rules.{within}
 
 pub within-bits : (m x : ℕ) → m < 2 ^ 32 → within m x ≡ true → BitsIn 32 m x
 within-bits m x h e = bits.masked-within 32 m x h (eqb-true _ 0 e)

@@ -7,13 +7,15 @@ use lib.ListN.{length, getD}
 use Rattle.word.specs.Lists.{every}
 use Rattle.word.specs.Map.{bit}
 use Rattle.word.specs.Big.{wordAt}
+use Rattle.word.specs.Mask.{within}
+use Rattle.word.specs.Number.{between}
 use Rattle.cp0.specs.declared.registers.Cp0.{Cp0}
 use Rattle.cp0.specs.Written.{statusMask, entryHiMask, entryLoMask}
 use Rattle.cp0.specs.Entry.{excCode}
 use Rattle.cp0.specs.Random.{field, topEntry}
 use Rattle.tlb.specs.declared.Row.{Row}
 use Rattle.tlb.specs.Entry.{noRow}
-use Rattle.printer.specs.Rules.{between, within, lineKeeps}
+use Rattle.printer.specs.Rules.{lineKeeps}
 use Rattle.state.specs.declared.machine.Machine.{Machine}
 use Rattle.state.specs.declared.machine.Journal.{Journal}
 use Rattle.state.specs.Layout.{machineOf}

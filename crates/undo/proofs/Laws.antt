@@ -10,10 +10,10 @@ use lib.Dec.{leb}
 use lib.ListN.{length}
 use lib.Seq.{length-sets}
 use Rattle.word.specs.Little.{toBytes}
+use Rattle.word.specs.Number.{between}
 use Rattle.word.proofs.Cond.{both}
 use Rattle.memory.specs.Memory.{storedAt}
 use Rattle.memory.proofs.Cells.{stored-sets}
-use Rattle.printer.specs.Rules.{between}
 use Rattle.printer.proofs.Undo.{length-back}
 use Rattle.rules.specs.Rules.{stateKeeps}
 use Rattle.record.specs.declared.Record.{Record}

@@ -10,7 +10,7 @@ use borrow.Author.Tests.{lt-ltb, le-ltb, le-leb, lt-leb}
 use lib.Dec.{ltb}
 use lib.IntN.{ℤ, pos, negsuc, negℤ, _+ℤ_, _-ℤ_, +ℤ-assoc, +ℤ-comm, +ℤ-idr, +ℤ-invr, negℤ-+ℤ, negℤ-negℤ}
 use lib.Signed.{ltZ}
-use Rattle.word.specs.Number.{within}
+use Rattle.word.specs.Number.{fits}
 
 pub minus-below : (a b : ℕ) → a < b → pos a -ℤ pos b ≡ negsuc (b - suc a)
 minus-below a zero h = absurd (omega arith)
@@ -51,17 +51,17 @@ minus-order half a b = by (decLt a half) (decLt b half) (decLt a b)
     by (no p) (no q) (no r) = rw (minus-above a half (omega arith), minus-above b half (omega arith), le-ltb a b (omega arith), le-ltb (a - half) (b - half) (omega arith))
 
 -- ---- whether a word of the width holds it
-pub within-below : (half m : ℕ) → m < half → within half (negsuc m) ≡ true
-within-below zero m h = absurd (omega arith)
-within-below (suc half) m h = rw (le-leb m half (omega arith))
+pub fits-below : (half m : ℕ) → m < half → fits half (negsuc m) ≡ true
+fits-below zero m h = absurd (omega arith)
+fits-below (suc half) m h = rw (le-leb m half (omega arith))
 
-pub outside-below : (half m : ℕ) → half ≤ m → within half (negsuc m) ≡ false
+pub outside-below : (half m : ℕ) → half ≤ m → fits half (negsuc m) ≡ false
 outside-below zero m h = refl
 outside-below (suc half) m h = rw (lt-leb m half (omega arith))
 
-pub within-above : (half m : ℕ) → m < half → within half (pos m) ≡ true
-within-above zero m h = absurd (omega arith)
-within-above (suc half) m h = rw (lt-ltb m (suc half) h)
+pub fits-above : (half m : ℕ) → m < half → fits half (pos m) ≡ true
+fits-above zero m h = absurd (omega arith)
+fits-above (suc half) m h = rw (lt-ltb m (suc half) h)
 
-pub outside-above : (half m : ℕ) → half ≤ m → within half (pos m) ≡ false
+pub outside-above : (half m : ℕ) → half ≤ m → fits half (pos m) ≡ false
 outside-above half m h = rw (le-ltb m half h)

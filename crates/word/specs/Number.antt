@@ -1,9 +1,13 @@
--- A word of k bits as a signed number, and a number's low k bits, at any k.
+-- Ranges of numbers; a word of k bits as a signed number, and a number's low k bits, at any k.
 use Prim.Native.Nat.{ℕ, _+_, _-_, _%_, _^_}
 use mathlib.Core.Bool.{Bool, true, false, cond, _&&_}
-use lib.Dec.{ltb}
+use lib.Dec.{leb, ltb}
 use lib.IntN.{ℤ, pos, negsuc, negℤ}
 use lib.Signed.{ltZ, leZ}
+
+-- low ≤ x ≤ high
+abbrev pub between : ℕ → ℕ → ℕ → Bool
+between low high x = leb low x && leb x high
 
 -- two's complement: below half it is itself, and from half on it is the whole less than that
 abbrev pub twos : ℕ → ℕ → ℤ
@@ -29,5 +33,5 @@ withSign false size = pos size
 withSign true size = negℤ (pos size)
 
 -- - half ≤ z < half: a word of the width holds it
-abbrev pub within : ℕ → ℤ → Bool
-within half z = ltZ z (pos half) && leZ (negℤ (pos half)) z
+abbrev pub fits : ℕ → ℤ → Bool
+fits half z = ltZ z (pos half) && leZ (negℤ (pos half)) z

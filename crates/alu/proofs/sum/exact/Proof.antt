@@ -3,7 +3,7 @@ use mathlib.Core.Path.{ap}
 use Prim.Native.Nat.{suc, _-_, _^_}
 use native.Mathlib.Omega.{arith}
 use Rattle.word.proofs.Signs.{negated}
-use Rattle.word.proofs.Differences.{minus-below, minus-above, within-below, within-above, outside-below, outside-above}
+use Rattle.word.proofs.Differences.{minus-below, minus-above, fits-below, fits-above, outside-below, outside-above}
 use Rattle.alu.specs.declared.sum.Added.the-variants.{Sum}
 use borrow.Author.Needs.{needs}
 use Rattle.alu.proofs.sum.exact.Statement.{statement}
@@ -22,7 +22,7 @@ returns-2 c =
     let n = c .before .before .args .n in
     rw (
       minus-below n (2 ^ 32) (omega arith),
-      within-below (2 ^ 31) (2 ^ 32 - suc n) (omega arith),
+      fits-below (2 ^ 31) (2 ^ 32 - suc n) (omega arith),
       negated (2 ^ 32) (2 ^ 32 - suc n) (omega arith),
     )
     (ap Sum (omega arith))
@@ -33,7 +33,7 @@ cast-t5 c = search needs
 returns-3 : tie.Need-returns-3
 returns-3 c =
     let n = c .before .before .before .args .n in
-    rw (minus-above n (2 ^ 32) (omega arith), within-above (2 ^ 31) (n - 2 ^ 32) (omega arith)) (ap Sum (omega arith))
+    rw (minus-above n (2 ^ 32) (omega arith), fits-above (2 ^ 31) (n - 2 ^ 32) (omega arith)) (ap Sum (omega arith))
 
 returns-4 : tie.Need-returns-4
 returns-4 c =
