@@ -2,7 +2,7 @@
 use Prim.Native.Nat.{ℕ, _<_}
 use mathlib.Core.Bool.{false}
 use Rattle.clock.specs.declared.Clock.{Clock}
-use Rattle.cp0.specs.Interrupt.{lineOf}
+use Rattle.cp0.specs.Interrupt.{withLine}
 use Rattle.printer.specs.declared.Line.{Line}
 use Rattle.printer.specs.Cause.{shownOf}
 use Rattle.printer.specs.Command.{commandOf, dataOf}
@@ -23,7 +23,7 @@ clockStored (Data n word) clock = clock
 
 abbrev pub timerLine : Store → ℕ → ℕ
 timerLine Nothing cause = cause
-timerLine (Timer word) cause = lineOf 2 false cause
+timerLine (Timer word) cause = withLine 2 false cause
 timerLine (Command n word) cause = cause
 timerLine (Data n word) cause = cause
 

@@ -15,5 +15,5 @@ abbrev pub interruptsOf : ℕ → ℕ → Bool
 interruptsOf status cause = bit 0 status && not (eqb (bitAnd (ip cause) (im status)) 0)
 
 -- Cause with IP[line] on or off, as told
-abbrev pub lineOf : ℕ → Bool → ℕ → ℕ
-lineOf line on cause = withBit (8 + line) on cause
+abbrev pub withLine : ℕ → Bool → ℕ → ℕ
+withLine line on cause = withBit (8 + line) on cause

@@ -14,7 +14,7 @@ use Rattle.word.proofs.Cond.{and-true}
 use Rattle.word.proofs.Maps.{bit-told, bit-other, with-small}
 use Rattle.word.proofs.Within.{BitsIn}
 use Rattle.cp0.specs.Entry.{excCode}
-use Rattle.cp0.specs.Interrupt.{lineOf}
+use Rattle.cp0.specs.Interrupt.{withLine}
 use Rattle.printer.specs.Cause.{shownOf}
 use Rattle.rules.specs.Rules.{ip, causeKeeps}
 use Rattle.rules.proofs.Masks.{within-bits, bits-within}
@@ -70,7 +70,7 @@ bit-steady n on {cause} low inside outside a₃ a₄ a₅ a₇ s = record {
     by k h is (no apart) = s .masked k h (sym (bit-other n k on cause apart) ∙ is)
 
 -- the timer's line
-pub timer-steady : (on : Bool) {cause : ℕ} → Steady cause → Steady (lineOf 2 on cause)
+pub timer-steady : (on : Bool) {cause : ℕ} → Steady cause → Steady (withLine 2 on cause)
 timer-steady on s =
     bit-steady 10 on (lit< tt) refl refl (λ e. omega arith) (λ e. omega arith) (λ e. omega arith) (λ e. omega arith) s
 

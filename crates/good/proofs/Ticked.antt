@@ -7,7 +7,7 @@ use Rattle.word.specs.Lists.{Below}
 use Rattle.word.proofs.Cond.{picked}
 use Rattle.clock.specs.declared.Clock.{Clock}
 use Rattle.clock.specs.Tick as clock
-use Rattle.cp0.specs.Interrupt.{lineOf}
+use Rattle.cp0.specs.Interrupt.{withLine}
 use Rattle.cp0.specs.Random.{randomOf, topEntry}
 use Rattle.printer.specs.Tick as printer
 use Rattle.printer.proofs.LineKeeps.{tick-keeps}
@@ -28,7 +28,7 @@ unfolding clock.tickedOf
 clock-words c = each-below (clockWords (clock.tickedOf c .clock)) (omega arith)
 
 rang-steady : (rang : Bool) {cause : ℕ} → Steady cause → Steady (rangLine rang cause)
-rang-steady rang {cause} s = picked Steady rang (lineOf 2 true cause) cause (λ _. timer-steady true s) (λ _. s)
+rang-steady rang {cause} s = picked Steady rang (withLine 2 true cause) cause (λ _. timer-steady true s) (λ _. s)
 
 core-ticked : {c : Core} {pending : ℕ} (rang : Bool) (next : ℕ) → CoreSound c pending → CoreSound (coreTicked rang next c) next
 core-ticked {c} rang next s =

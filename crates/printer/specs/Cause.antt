@@ -2,7 +2,7 @@
 use Prim.Native.Nat.{ℕ}
 use mathlib.Core.Bool.{not}
 use lib.Dec.{eqb}
-use Rattle.cp0.specs.Interrupt.{lineOf}
+use Rattle.cp0.specs.Interrupt.{withLine}
 
 abbrev pub shownOf : ℕ → ℕ → ℕ
-shownOf pending cause = lineOf 6 (not (eqb pending 0)) cause
+shownOf pending cause = withLine 6 (not (eqb pending 0)) cause

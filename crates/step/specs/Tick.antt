@@ -3,7 +3,7 @@ use Prim.Native.Nat.{ℕ}
 use mathlib.Core.Bool.{Bool, cond, true}
 use Rattle.clock.specs.declared.Clock.{Clock}
 use Rattle.clock.specs.Tick as clock
-use Rattle.cp0.specs.Interrupt.{lineOf}
+use Rattle.cp0.specs.Interrupt.{withLine}
 use Rattle.cp0.specs.Random.{randomOf, topEntry}
 use Rattle.cp0.specs.declared.registers.Cp0.{Cp0}
 use Rattle.printer.specs.Cause.{shownOf}
@@ -14,7 +14,7 @@ use Rattle.step.specs.World.{World}
 
 -- "the passage 0 to 0xFFFFFFFF turns on IP[2]"
 abbrev pub rangLine : Bool → ℕ → ℕ
-rangLine rang cause = cond rang (lineOf 2 true cause) cause
+rangLine rang cause = cond rang (withLine 2 true cause) cause
 
 -- `pending` is the map after the printers' tick
 abbrev pub cp0Ticked : Bool → ℕ → Cp0 → Cp0
