@@ -38,7 +38,7 @@ Coded (Exception miss code) = code ≤ 12
 
 abbrev CodedAfter : Translated → Type 0
 CodedAfter (To p) = Unit {0}
-CodedAfter (Raises code miss) = code ≤ 12
+CodedAfter (Raises miss code) = code ≤ 12
 
 module _ (kind : Kind) where
   address-coded : addressError kind ≤ 12
@@ -70,7 +70,7 @@ module _ (kind : Kind) where
 
 after-coded : (access : Access) (sizes : Sizes) (to : Translated) → CodedAfter to → Coded (busAfter access sizes to)
 after-coded access sizes (To p) h = lands-coded (access .kind) (access .width) (mappedOf sizes p)
-after-coded access sizes (Raises code miss) h = h
+after-coded access sizes (Raises miss code) h = h
 
 reach-coded : (mode : Mode) (access : Access) (sizes : Sizes) (a : ℕ) (t : List Row) (entry : ℕ) → Coded (reachOf mode access sizes a t entry)
 unfolding reachOf

@@ -31,7 +31,7 @@ use Rattle.reach.specs.declared.Reached.the-variants.{Lands, Exception}
 -- ---- translation keeps the place in the page, and so the place in the word
 abbrev Keeps : ℕ → Translated → Type 0
 Keeps a (To p) = p % 4 ≡ a % 4
-Keeps a (Raises code miss) = Unit
+Keeps a (Raises miss code) = Unit
 
 in-page : (frame a : ℕ) → (frame * 2 ^ 12 + a % 2 ^ 12) % 4 ≡ a % 4
 in-page frame a = omega arith
@@ -75,7 +75,7 @@ module _ (access : Access) (sizes : Sizes) (a : ℕ) where
 
     after : (t : Translated) → Keeps a t → LandsBy (busAfter access sizes t)
     after (To p) same = after-bus p same (mappedOf sizes p) refl
-    after (Raises code miss) keeps = tt
+    after (Raises miss code) keeps = tt
 
 module _ (mode : Mode) (access : Access) (sizes : Sizes) (a : ℕ) (t : List Row) (entry : ℕ) where
   reached-by : LandsBy access sizes a (reachOf mode access sizes a t entry)

@@ -19,12 +19,12 @@ use Rattle.reach.specs.declared.Reached.the-variants.{Exception}
 -- what comes before the bus: alignment, privilege, translation; t is the table, entry the EntryHi register
 abbrev pub physicalOf : Mode → Access → ℕ → List Row → ℕ → Translated
 physicalOf mode access a t entry =
-    cond (alignedOf (access .width) a && allowedOf mode a) (translatedOf mode (access .kind) a t entry) (Raises (addressError (access .kind)) false)
+    cond (alignedOf (access .width) a && allowedOf mode a) (translatedOf mode (access .kind) a t entry) (Raises false (addressError (access .kind)))
 
 -- then the bus
 abbrev pub busAfter : Access → Sizes → Translated → Reached
 busAfter access sizes (To p) = landsOf (access .kind) (access .width) (mappedOf sizes p)
-busAfter access sizes (Raises code miss) = Exception miss code
+busAfter access sizes (Raises miss code) = Exception miss code
 
 unfoldable pub reachOf : Mode → Access → Sizes → ℕ → List Row → ℕ → Reached
 reachOf mode access sizes a t entry = busAfter access sizes (physicalOf mode access a t entry)

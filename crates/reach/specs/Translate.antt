@@ -39,12 +39,12 @@ isLocked kind row = isStore kind && not (isDirty row)
 unfoldable pub byRow : Kind → ℕ → Row → Translated
 byRow kind a row =
     cond (isValid row)
-    (cond (isLocked kind row) (Raises codeMod false) (To (row .low / 2 ^ 12 * 2 ^ 12 + a % 2 ^ 12)))
-    (Raises (tlbError kind) false)
+    (cond (isLocked kind row) (Raises false codeMod) (To (row .low / 2 ^ 12 * 2 ^ 12 + a % 2 ^ 12)))
+    (Raises false (tlbError kind))
 
 abbrev pub byFound : Kind → ℕ → List Row → Found → Translated
 byFound kind a t (At i) = byRow kind a (getD t i noRow)
-byFound kind a t Nothing = Raises (tlbError kind) true
+byFound kind a t Nothing = Raises true (tlbError kind)
 
 abbrev pub isVirtual : Mode → ℕ → Bool
 isVirtual mode a = mode .vm && leb 0x20000000 a

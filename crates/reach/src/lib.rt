@@ -29,7 +29,7 @@ pub fn physical(mode: Mode, access: Access, a: u32, rows: [Row; 16], entry: u32)
     let width = access.width;
     if !check::checked(mode, width, a) {
         let code = check::address_error(kind);
-        return Translated::Raises { code, miss: false };
+        return Translated::Raises { miss: false, code };
     }
     translate::translate(mode, kind, a, rows, entry)
 }
@@ -43,6 +43,6 @@ pub fn landed(access: Access, sizes: Sizes, to: Translated) -> Reached
     let width = access.width;
     match to {
         Translated::To(p) => bus::on_bus(kind, width, sizes, p),
-        Translated::Raises { code, miss } => Reached::Exception { miss, code },
+        Translated::Raises { miss, code } => Reached::Exception { miss, code },
     }
 }

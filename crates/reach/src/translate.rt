@@ -14,7 +14,7 @@ use word::map::has_bit;
 
 pub enum Translated {
     To(u32),
-    Raises { code: u32, miss: bool },
+    Raises { miss: bool, code: u32 },
 }
 
 fn tlb_error(kind: Kind) -> u32
@@ -49,14 +49,14 @@ fn by_row(kind: Kind, a: u32, row: Row) -> Translated
 {
     if !has_bit(9, row.low) {
         return Translated::Raises {
-            code: tlb_error(kind),
             miss: false,
+            code: tlb_error(kind),
         };
     }
     if locked(kind, row) {
         return Translated::Raises {
-            code: MOD,
             miss: false,
+            code: MOD,
         };
     }
     Translated::To(row.low / 4096 * 4096 + a % 4096)
@@ -71,8 +71,8 @@ fn searched(kind: Kind, a: u32, rows: [Row; 16], entry: u32) -> Translated
             by_row(kind, a, row)
         }
         Found::Nothing => Translated::Raises {
-            code: tlb_error(kind),
             miss: true,
+            code: tlb_error(kind),
         },
     }
 }
