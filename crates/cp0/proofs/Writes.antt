@@ -1,6 +1,6 @@
 -- What MTC0 changes: of its register the bits of the mask, and nothing else.
 use Prim.Native.Nat.{ℕ, _^_, _<_}
-use mathlib.Core.Path.{_≡_, refl}
+use mathlib.Core.Path.{_≡_, refl, ap, _∙_}
 use mathlib.Core.Logic.{_≢_}
 use mathlib.Core.Bool.{cond}
 use borrow.Author.Tests.{eq-eqb, ne-eqb}
@@ -14,8 +14,22 @@ use Rattle.isa.specs.Encode.{controlCode}
 use Rattle.isa.specs.declared.instr.ControlRegister.{ControlRegister}
 use Rattle.isa.specs.declared.instr.ControlRegister.the-variants.{Index, Random, EntryLo, BadVAddr, EntryHi, Status, Cause, Epc}
 use Rattle.cp0.specs.declared.registers.Cp0.{Cp0}
-use Rattle.cp0.specs.Registers.{readOf, allOf, withRegister}
+use Rattle.cp0.specs.Registers.{readOf, withRegister}
 use Rattle.cp0.specs.Written.{maskOf, writtenOf}
+
+-- CP0 by what each register reads
+abbrev allOf : (ControlRegister → ℕ) → Cp0
+allOf f =
+    record {
+      index = f Index;
+      random = f Random;
+      «entry_hi» = f EntryHi;
+      «entry_lo» = f EntryLo;
+      «bad_vaddr» = f BadVAddr;
+      status = f Status;
+      cause = f Cause;
+      epc = f Epc;
+    }
 
 read-all : (f : ControlRegister → ℕ) (q : ControlRegister) → readOf q (allOf f) ≡ f q
 read-all f Index = refl
@@ -27,17 +41,27 @@ read-all f Status = refl
 read-all f Cause = refl
 read-all f Epc = refl
 
-module _ (r : ControlRegister) (word : ℕ) (c : Cp0) where
-  abbrev each : ControlRegister → ℕ
-  each q = cond (eqb (controlCode q) (controlCode r)) word (readOf q c)
+-- the eight clauses at once: what each register reads, by its number
+abbrev each : ControlRegister → ℕ → Cp0 → ControlRegister → ℕ
+each r word c q = cond (eqb (controlCode q) (controlCode r)) word (readOf q c)
 
+by-number : (r : ControlRegister) (word : ℕ) (c : Cp0) → withRegister r word c ≡ allOf (each r word c)
+unfolding withRegister
+by-number Index word c = refl
+by-number Random word c = refl
+by-number EntryLo word c = refl
+by-number BadVAddr word c = refl
+by-number EntryHi word c = refl
+by-number Status word c = refl
+by-number Cause word c = refl
+by-number Epc word c = refl
+
+module _ (r : ControlRegister) (word : ℕ) (c : Cp0) where
   pub read-it : readOf r (withRegister r word c) ≡ word
-  unfolding withRegister
-  read-it = rw (read-all each r, eq-eqb (controlCode r) (controlCode r) refl)
+  read-it = ap (readOf r) (by-number r word c) ∙ read-all (each r word c) r ∙ rw (eq-eqb (controlCode r) (controlCode r) refl)
 
   pub read-other : (q : ControlRegister) → controlCode q ≢ controlCode r → readOf q (withRegister r word c) ≡ readOf q c
-  unfolding withRegister
-  read-other q apart = rw (read-all each q, ne-eqb (controlCode q) (controlCode r) apart)
+  read-other q apart = ap (readOf q) (by-number r word c) ∙ read-all (each r word c) q ∙ rw (ne-eqb (controlCode q) (controlCode r) apart)
 
 mask-fits : (r : ControlRegister) → maskOf r < 2 ^ 32
 mask-fits Index = lit< tt
@@ -65,13 +89,13 @@ module _ (r : ControlRegister) (word : ℕ) (c : Cp0) where
   after = writtenOf r word c
 
   -- the new word of the register
-  now : readOf r after ≡ overlaidOf (maskOf r) (readOf r c) word
+  pub written-word : readOf r after ≡ overlaidOf (maskOf r) (readOf r c) word
   unfolding writtenOf
-  now = read-it r (overlaidOf (maskOf r) (readOf r c) word) c
+  written-word = read-it r (overlaidOf (maskOf r) (readOf r c) word) c
 
   pub written-bit : (k : ℕ) → k < 32 → bit k (readOf r after) ≡ cond (bit k (maskOf r)) (bit k word) (bit k (readOf r c))
   unfolding overlaidOf
-  written-bit k h = rw now (overlaid-bit 32 (maskOf r) (readOf r c) word (mask-fits r) k h)
+  written-bit k h = rw written-word (overlaid-bit 32 (maskOf r) (readOf r c) word (mask-fits r) k h)
 
   pub others-kept : (q : ControlRegister) → controlCode q ≢ controlCode r → readOf q after ≡ readOf q c
   unfolding writtenOf
@@ -80,7 +104,7 @@ module _ (r : ControlRegister) (word : ℕ) (c : Cp0) where
   -- a register within a mask that has all bits of its own stays within it
   pub written-within : (m : ℕ) → BitsIn 32 m (readOf r c) → BitsIn 32 m (maskOf r) → BitsIn 32 m (readOf r after)
   unfolding overlaidOf
-  written-within m old own = rw now (overlaid-within 32 (maskOf r) (readOf r c) word (mask-fits r) m old own)
+  written-within m old own = rw written-word (overlaid-within 32 (maskOf r) (readOf r c) word (mask-fits r) m old own)
 
   -- "to Random, BadVAddr, EPC nothing"
   pub nothing-written : maskOf r ≡ 0 → readOf r c < 2 ^ 32 → after ≡ c

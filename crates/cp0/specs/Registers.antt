@@ -1,8 +1,5 @@
 -- The eight registers of CP0 by their names: what one reads, and CP0 with another word in one.
 use Prim.Native.Nat.{ℕ}
-use mathlib.Core.Bool.{cond}
-use lib.Dec.{eqb}
-use Rattle.isa.specs.Encode.{controlCode}
 use Rattle.isa.specs.declared.instr.ControlRegister.{ControlRegister}
 use Rattle.isa.specs.declared.instr.ControlRegister.the-variants.{Index, Random, EntryLo, BadVAddr, EntryHi, Status, Cause, Epc}
 use Rattle.cp0.specs.declared.registers.Cp0.{Cp0}
@@ -17,23 +14,24 @@ readOf Status c = c .status
 readOf Cause c = c .cause
 readOf Epc c = c .epc
 
--- CP0 by what each register reads
-abbrev pub allOf : (ControlRegister → ℕ) → Cp0
-allOf f =
-    record {
-      index = f Index;
-      random = f Random;
-      «entry_hi» = f EntryHi;
-      «entry_lo» = f EntryLo;
-      «bad_vaddr» = f BadVAddr;
-      status = f Status;
-      cause = f Cause;
-      epc = f Epc;
-    }
-
 -- register r holds the word, and each other what it held
 unfoldable pub withRegister : ControlRegister → ℕ → Cp0 → Cp0
-withRegister r word c = allOf (λ q. cond (eqb (controlCode q) (controlCode r)) word (readOf q c))
+withRegister Index word c =
+    record { index = word; random = c .random; «entry_hi» = c .«entry_hi»; «entry_lo» = c .«entry_lo»; «bad_vaddr» = c .«bad_vaddr»; status = c .status; cause = c .cause; epc = c .epc }
+withRegister Random word c =
+    record { random = word; index = c .index; «entry_hi» = c .«entry_hi»; «entry_lo» = c .«entry_lo»; «bad_vaddr» = c .«bad_vaddr»; status = c .status; cause = c .cause; epc = c .epc }
+withRegister EntryLo word c =
+    record { «entry_lo» = word; index = c .index; random = c .random; «entry_hi» = c .«entry_hi»; «bad_vaddr» = c .«bad_vaddr»; status = c .status; cause = c .cause; epc = c .epc }
+withRegister BadVAddr word c =
+    record { «bad_vaddr» = word; index = c .index; random = c .random; «entry_hi» = c .«entry_hi»; «entry_lo» = c .«entry_lo»; status = c .status; cause = c .cause; epc = c .epc }
+withRegister EntryHi word c =
+    record { «entry_hi» = word; index = c .index; random = c .random; «entry_lo» = c .«entry_lo»; «bad_vaddr» = c .«bad_vaddr»; status = c .status; cause = c .cause; epc = c .epc }
+withRegister Status word c =
+    record { status = word; index = c .index; random = c .random; «entry_hi» = c .«entry_hi»; «entry_lo» = c .«entry_lo»; «bad_vaddr» = c .«bad_vaddr»; cause = c .cause; epc = c .epc }
+withRegister Cause word c =
+    record { cause = word; index = c .index; random = c .random; «entry_hi» = c .«entry_hi»; «entry_lo» = c .«entry_lo»; «bad_vaddr» = c .«bad_vaddr»; status = c .status; epc = c .epc }
+withRegister Epc word c =
+    record { epc = word; index = c .index; random = c .random; «entry_hi» = c .«entry_hi»; «entry_lo» = c .«entry_lo»; «bad_vaddr» = c .«bad_vaddr»; status = c .status; cause = c .cause }
 
 -- TLBR: EntryHi and EntryLo
 abbrev pub withEntry : ℕ → ℕ → Cp0 → Cp0

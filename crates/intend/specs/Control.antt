@@ -3,13 +3,14 @@ use Prim.Native.Nat.{ℕ, _%_}
 use mathlib.Core.Bool.{cond}
 use mathlib.Core.List.{List}
 use lib.ListN.{length}
+use Rattle.word.specs.Mask.{overlaidOf}
 use Rattle.isa.specs.declared.instr.Control.{Control}
 use Rattle.isa.specs.declared.instr.Control.the-variants.{Undefined, Mfc0, Mtc0, Tlbr, Tlbwi, Tlbwr, Tlbp, Rfe}
 use Rattle.isa.specs.declared.instr.ControlRegister.{ControlRegister}
 use Rattle.isa.specs.declared.instr.ControlRegister.the-variants.{Index, Status}
 use Rattle.cp0.specs.Privilege.{usableOf}
 use Rattle.cp0.specs.Registers.{readOf}
-use Rattle.cp0.specs.Written.{writtenOf}
+use Rattle.cp0.specs.Written.{maskOf}
 use Rattle.cp0.specs.Word.{poppedOf}
 use Rattle.cp0.specs.declared.registers.Cp0.{Cp0}
 use Rattle.tlb.specs.Entry.{readAt}
@@ -21,9 +22,9 @@ use Rattle.intend.specs.Operand.{regOf}
 use Rattle.intend.specs.declared.intent.Intent.{Intent}
 use Rattle.intend.specs.declared.intent.Intent.the-variants.{Write, SetControl, SetEntry, SetRow, Trap}
 
--- MTC0: what the register reads once the word is written under its mask
+-- MTC0: the word that is to be there, written under the register's mask
 abbrev pub writtenWord : ControlRegister → ℕ → Cp0 → ℕ
-writtenWord r word cp0 = readOf r (writtenOf r word cp0)
+writtenWord r word cp0 = overlaidOf (maskOf r) (readOf r cp0) word
 
 -- the row that TLBWI and TLBWR write
 abbrev pub entryOf : Cp0 → Row

@@ -5,7 +5,7 @@ use mathlib.Core.List.{List}
 use native.Mathlib.Nat.{mod-lt}
 use native.Mathlib.Omega.{arith}
 use lib.ListN.{length, getD}
-use Rattle.word.specs.Mask.{within, overlaidOf}
+use Rattle.word.specs.Mask.{within}
 use Rattle.word.proofs.Cond.{picked}
 use Rattle.isa.specs.declared.instr.Control.{Control}
 use Rattle.isa.specs.declared.instr.Control.the-variants.{Undefined, Mfc0, Mtc0, Tlbr, Tlbwi, Tlbwr, Tlbp, Rfe}
@@ -13,9 +13,7 @@ use Rattle.isa.specs.declared.instr.ControlRegister.{ControlRegister}
 use Rattle.isa.specs.declared.instr.ControlRegister.the-variants.{Index, Status}
 use Rattle.cp0.specs.Privilege.{usableOf}
 use Rattle.cp0.specs.Registers.{readOf, withRegister, withEntry}
-use Rattle.cp0.specs.Written.{maskOf, writtenOf}
 use Rattle.cp0.specs.declared.registers.Cp0.{Cp0}
-use Rattle.cp0.proofs.Writes.{read-it}
 use Rattle.tlb.specs.Entry.{noRow, readAt}
 use Rattle.tlb.specs.Index.{indexOf, probedOf}
 use Rattle.tlb.specs.Search.{foundIn}
@@ -55,9 +53,7 @@ probed-good pending Nothing = record { small = omega arith; kept = refl }
 
 module _ (c : Cp0) (pending : ℕ) (g : ControlGood c pending) where
   written-good : (r : ControlRegister) (word : ℕ) → Good r pending (writtenWord r word c)
-  unfolding writtenOf
-  written-good r word =
-      rw (read-it r (overlaidOf (maskOf r) (readOf r c) word) c) (overlaid-good pending (readOf r c) word r (each-of c pending g r))
+  written-good r word = overlaid-good pending (readOf r c) word r (each-of c pending g r)
 
   module _ (regs : List ℕ) (t : List Row) (some : 0 < length t) (rows : (i : ℕ) → i < length t → RowGood (getD t i noRow)) where
     function-means : (f : Control) → Means c pending (functionOf c regs t f)
