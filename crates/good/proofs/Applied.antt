@@ -88,7 +88,7 @@ effect-sound sizes (DeviceStore offset word) w c s i l =
     let store = busWriteOf offset word in
     record {
       regs = s .regs;
-      core = lines-stored store (boardStored store (w .board) .line) (s .core);
+      core = lines-stored store (boardStored store (w .board) .line .pending) (s .core);
       rows = s .rows;
       board = board-stored (w .board) (s .board) store (in-line offset word) (small-store offset word l);
       ram = s .ram;

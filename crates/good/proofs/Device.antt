@@ -20,12 +20,11 @@ use Rattle.bus.specs.declared.store.Store.the-variants.{Nothing, Timer, Command
 use Rattle.bus.proofs.Stores.{store-keeps}
 use Rattle.cp0.specs.Registers.{withRegister}
 use Rattle.printer.specs.Tick.{noPrinter}
-use Rattle.printer.specs.declared.Line.{Line}
 use Rattle.state.specs.Layout.{clockWords, settingsWords, printerWords}
 use Rattle.state.specs.declared.machine.Core.{Core}
 use Rattle.state.specs.declared.machine.Board.{Board}
 use Rattle.rules.specs.Rules.{rangesKeep}
-use Rattle.step.specs.Apply.{busOf, deviceWord, boardStored, linesStored}
+use Rattle.step.specs.Apply.{withCp0, busOf, deviceWord, boardStored, linesStored}
 use Rattle.good.proofs.Belows.{below-any, each-below, below-each}
 use Rattle.good.proofs.Causes.{Steady, timer-steady}
 use Rattle.good.proofs.Control.{cause-steady, random-own, lined-good, with-cp0}
@@ -124,9 +123,9 @@ timer-line (Timer word) s = timer-steady false s
 timer-line (Command n word) s = s
 timer-line (Data n word) s = s
 
-pub lines-stored : (store : Store) (line : Line) {c : Core} {pending : ℕ} → CoreSound c pending → CoreSound (linesStored store line c) (line .pending)
+pub lines-stored : (store : Store) (next : ℕ) {c : Core} {pending : ℕ} → CoreSound c pending → CoreSound (withCp0 (linesStored store next (c .cp0)) c) next
 unfolding withRegister
-lines-stored store line {c} s =
+lines-stored store next {c} s =
     let g = control-good s in
-    with-cp0 s _ (line .pending)
-    (lined-good g (c .cp0 .random) (line .pending) (timerLine store (c .cp0 .cause)) (random-own g) (timer-line store (cause-steady g)))
+    with-cp0 s _ next
+    (lined-good g (c .cp0 .random) next (timerLine store (c .cp0 .cause)) (random-own g) (timer-line store (cause-steady g)))

@@ -21,7 +21,7 @@ pub record SameLengths (before after : World) : Type 0 where
 
 pub tick-lengths : (w : World) → SameLengths w (tickOf w)
 unfolding tickOf
-tick-lengths w = record { ram = refl; paper = length-ticks (printingOf w) 8 }
+tick-lengths w = record { ram = refl; paper = length-ticks (printingOf (w .board) (w .paper)) 8 }
 
 pub effect-lengths : (sizes : Sizes) (rows : ℕ) (e : Effect) (w : World) → Within (length (w .ram)) rows e → SameLengths w (effectOf sizes e w)
 unfolding effectOf

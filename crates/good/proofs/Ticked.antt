@@ -9,12 +9,14 @@ use Rattle.clock.specs.declared.Clock.{Clock}
 use Rattle.clock.specs.Tick as clock
 use Rattle.cp0.specs.Interrupt.{withLine}
 use Rattle.cp0.specs.Random.{randomOf, topEntry}
+use Rattle.cp0.specs.Registers.{withRegister}
 use Rattle.printer.specs.Tick as printer
 use Rattle.printer.proofs.LineKeeps.{tick-keeps}
 use Rattle.state.specs.Layout.{clockWords}
 use Rattle.state.specs.declared.machine.Core.{Core}
 use Rattle.step.specs.World.{World}
-use Rattle.step.specs.Tick.{rangLine, coreTicked, printingOf, tickOf}
+use Rattle.step.specs.Tick.{rangLine, printingOf, tickOf}
+use Rattle.step.specs.Parts.{coreTicked}
 use Rattle.good.specs.Good.{Good}
 use Rattle.good.proofs.Belows.{each-below}
 use Rattle.good.proofs.Causes.{Steady, timer-steady}
@@ -31,6 +33,7 @@ rang-steady : (rang : Bool) {cause : ℕ} → Steady cause → Steady (rangLine 
 rang-steady rang {cause} s = picked Steady rang (withLine 2 true cause) cause (λ _. timer-steady true s) (λ _. s)
 
 core-ticked : {c : Core} {pending : ℕ} (rang : Bool) (next : ℕ) → CoreSound c pending → CoreSound (coreTicked rang next c) next
+unfolding withRegister
 core-ticked {c} rang next s =
     let g = control-good s in
     with-cp0 s _ next
@@ -42,7 +45,7 @@ pub tick-sound : (w : World) → length (w .paper) < 2 ^ 32 → Sound w → Soun
 unfolding tickOf
 tick-sound w few s =
     let beat = clock.tickedOf (w .board .clock) in
-    let printed = printer.tickedOf (printingOf w) in
+    let printed = printer.tickedOf (printingOf (w .board) (w .paper)) in
     let b = s .board in
     record {
       regs = s .regs;
@@ -53,11 +56,11 @@ tick-sound w few s =
             clock = clock-words (w .board .clock);
             settings = b .settings;
             ranges = b .ranges;
-            words = ticked-words (printingOf w) (b .words) (b .line .eight) (omega arith);
-            line = tick-keeps (w .board .settings .installed) (w .board .settings .delay) (printingOf w) (b .line);
+            words = ticked-words (printingOf (w .board) (w .paper)) (b .words) (b .line .eight) (omega arith);
+            line = tick-keeps (w .board .settings .installed) (w .board .settings .delay) (printingOf (w .board) (w .paper)) (b .line);
           };
       ram = s .ram;
-      paper = paper-bytes (printingOf w) 8 (s .paper);
+      paper = paper-bytes (printingOf (w .board) (w .paper)) 8 (s .paper);
     }
 
 pub tick-good : (w : World) → length (w .paper) < 2 ^ 32 → Good w → Good (tickOf w)

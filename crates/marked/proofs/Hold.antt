@@ -8,6 +8,7 @@ use Rattle.word.specs.Mask.{overlaidOf}
 use Rattle.memory.specs.Memory.{loadAt}
 use Rattle.cp0.specs.Word.{pushedOf, poppedOf}
 use Rattle.cp0.specs.Entry.{causeOf, enteredOf}
+use Rattle.cp0.specs.Registers.{withRegister}
 use Rattle.clock.specs.Tick.{tickedOf}
 use Rattle.printer.specs.Tick.{ticks, tickOne, printerTicked, paperTicked, finishedOf}
 use Rattle.board.specs.Places.{mappedOf}
@@ -24,5 +25,5 @@ use Rattle.step.specs.Tick.{tickOf}
 use Rattle.marked.specs.Marked.{marked, computed, told}
 
 pub marked-hold : map computed marked ≡ map told marked
-unfolding stepOf tickOf tickedOf ticks tickOne printerTicked paperTicked decideOf executeOf reachedOf reachOf translatedOf mappedOf loadAt regOf intendOf settleOf effectOf enteredOf causeOf withBit overlaidOf pushedOf poppedOf fromBytes toBytes
+unfolding stepOf tickOf withRegister tickedOf ticks tickOne printerTicked paperTicked decideOf executeOf reachedOf reachOf translatedOf mappedOf loadAt regOf intendOf settleOf effectOf enteredOf causeOf withBit overlaidOf pushedOf poppedOf fromBytes toBytes
 marked-hold = refl

@@ -22,8 +22,8 @@ use Rattle.restored.proofs.Times.{clock-back}
 use Rattle.restored.proofs.Parts.{regs-back, rows-back, ram-back, clock-of, settings-of}
 
 paper-back : (w : World) →
-    restoredPaper (savedPaperOf (w .board .line .printers) (w .paper)) (w .board .line .printers) (printer.tickedOf (printingOf w) .paper) ≡ w .paper
-paper-back w = ap (λ (s : printer.Printing). s .paper) (undo-tick (printingOf w))
+    restoredPaper (savedPaperOf (w .board .line .printers) (w .paper)) (w .board .line .printers) (printer.tickedOf (printingOf (w .board) (w .paper)) .paper) ≡ w .paper
+paper-back w = ap (λ (s : printer.Printing). s .paper) (undo-tick (printingOf (w .board) (w .paper)))
 
 module _ (roms : Roms) (w : World) (good : Good w) (whole : Whole (lentIn roms w)) where
   abbrev ticked : World

@@ -23,9 +23,8 @@ use Rattle.held.specs.Line.{TicksIs, CommandIs, DataIs}
 use Rattle.held.specs.declared.Held.{Held}
 use Rattle.held.proofs.CoreWords.{core-held}
 use Rattle.step.specs.World.{worldOf}
-use Rattle.step.specs.Tick.{coreTicked}
 use Rattle.step.specs.Apply.{busOf, withPc}
-use Rattle.step.specs.Parts.{regsAfter, ramAfter, coreAfter, rowsAfter}
+use Rattle.step.specs.Parts.{coreTicked, regsAfter, ramAfter, coreAfter, rowsAfter}
 use Rattle.step.specs.Held.{PrintedIs, TickIs, StoredIs, HeldIs, ApplyIs}
 use Rattle.step.specs.declared.tick.AfterPrinters.{AfterPrinters}
 use Rattle.step.proofs.Ticks.{tick-is}

@@ -11,7 +11,8 @@ use Rattle.tlb.specs.declared.Row.{Row}
 use Rattle.state.specs.declared.machine.Core.{Core}
 use Rattle.state.specs.declared.machine.Board.{Board}
 use Rattle.step.specs.World.{World, worldOf}
-use Rattle.step.specs.Tick.{coreTicked, tickOf}
+use Rattle.step.specs.Tick.{tickOf}
+use Rattle.step.specs.Parts.{coreTicked}
 
 module _ (core : Core) (board : Board) (paper : List ℕ) where
   pub tick-is : {line : Line} {after : List ℕ} {beat : Beat} {next : Core} →

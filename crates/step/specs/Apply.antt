@@ -13,9 +13,9 @@ use Rattle.cp0.specs.Registers.{withRegister, withEntry}
 use Rattle.cp0.specs.declared.registers.Cp0.{Cp0}
 use Rattle.isa.specs.declared.instr.ControlRegister.the-variants.{Cause}
 use Rattle.memory.specs.Memory.{storedAt}
-use Rattle.printer.specs.declared.Line.{Line}
 use Rattle.tlb.specs.declared.Row.{Row}
 use Rattle.state.specs.declared.machine.Core.{Core}
+use Rattle.state.specs.declared.machine.Cpu.{Cpu}
 use Rattle.state.specs.declared.machine.Board.{Board}
 use Rattle.decide.specs.declared.effect.Effect.{Effect}
 use Rattle.decide.specs.declared.effect.Effect.the-variants.{Nothing, Register, HiLo, Control, Entry, TlbRow, Ram, DeviceLoad, DeviceStore, Raise}
@@ -39,14 +39,15 @@ withTlb t w =
 abbrev pub withRam : List ℕ → World → World
 withRam ram w = record { cpu = w .cpu; board = w .board; ram = ram; paper = w .paper }
 
-abbrev pub withBoard : Board → World → World
-withBoard board w = record { cpu = w .cpu; board = board; ram = w .ram; paper = w .paper }
-
 abbrev pub withHiLo : ℕ → ℕ → Core → Core
 withHiLo hi lo c = record { hi = hi; lo = lo; pc = c .pc; «next_pc» = c .«next_pc»; cp0 = c .cp0 }
 
 abbrev pub withCp0 : Cp0 → Core → Core
 withCp0 cp0 c = record { hi = c .hi; lo = c .lo; pc = c .pc; «next_pc» = c .«next_pc»; cp0 = cp0 }
+
+-- a processor with its CP0 changed so
+abbrev pub inCp0 : (Cp0 → Cp0) → Cpu → Cpu
+inCp0 f p = record { regs = p .regs; core = withCp0 (f (p .core .cp0)) (p .core); tlb = p .tlb }
 
 abbrev pub withPc : ℕ → ℕ → Core → Core
 withPc pc next c = record { hi = c .hi; lo = c .lo; pc = pc; «next_pc» = next; cp0 = c .cp0 }
@@ -76,13 +77,14 @@ boardStored s b =
       line = lineStored (b .settings .installed) (b .settings .delay) s (b .line);
     }
 
-abbrev pub linesStored : Store → Line → Core → Core
-linesStored s line c = withCp0 (withRegister Cause (causeStored s (line .pending) (c .cp0 .cause)) (c .cp0)) c
+-- in the processor that the lines go to, whichever one stores; `pending` is the map after the store
+abbrev pub linesStored : Store → ℕ → Cp0 → Cp0
+linesStored s pending c = withRegister Cause (causeStored s pending (c .cause)) c
 
 abbrev pub deviceStored : Store → World → World
 deviceStored s w =
     let b = boardStored s (w .board) in
-    withCore (linesStored s (b .line) (w .cpu .core)) (withBoard b w)
+    record { cpu = inCp0 (linesStored s (b .line .pending)) (w .cpu); board = b; ram = w .ram; paper = w .paper }
 
 -- ---- the effect, and the PC pair
 

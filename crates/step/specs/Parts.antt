@@ -1,14 +1,13 @@
--- The effect by parts, for functions that hold only some of them: proofs/Effects.antt shows that together they are `effectOf`.
+-- The tick and the effect by parts, for functions that hold only some of them: proofs/Ticks.antt and Effects.antt show that together they are `tickOf` and `effectOf`.
 use Prim.Native.Nat.{ℕ}
+use mathlib.Core.Bool.{Bool}
 use mathlib.Core.List.{List}
 use lib.ListN.{getD, set}
 use Rattle.bus.specs.Store.{busWriteOf}
-use Rattle.bus.specs.Stored.{causeStored}
 use Rattle.bus.specs.Words.{busWordOf}
 use Rattle.bus.specs.declared.read.Bus.{Bus}
 use Rattle.cp0.specs.Entry.{enteredOf}
 use Rattle.cp0.specs.Registers.{withRegister, withEntry}
-use Rattle.isa.specs.declared.instr.ControlRegister.the-variants.{Cause}
 use Rattle.memory.specs.Memory.{loadAt, storedAt}
 use Rattle.printer.specs.declared.Printer.{Printer}
 use Rattle.tlb.specs.Entry.{noRow, readAt}
@@ -19,7 +18,12 @@ use Rattle.state.specs.declared.machine.Core.{Core}
 use Rattle.state.specs.declared.machine.Board.{Board}
 use Rattle.decide.specs.declared.effect.Effect.{Effect}
 use Rattle.decide.specs.declared.effect.Effect.the-variants.{Nothing, Register, HiLo, Control, Entry, TlbRow, Ram, DeviceLoad, DeviceStore, Raise}
-use Rattle.step.specs.Apply.{withHiLo, withCp0, boardStored}
+use Rattle.step.specs.Tick.{randomTicked, linesTicked}
+use Rattle.step.specs.Apply.{withHiLo, withCp0, boardStored, linesStored}
+
+-- the core after a tick; `pending` is the map after the printers' tick
+abbrev pub coreTicked : Bool → ℕ → Core → Core
+coreTicked rang pending c = withCp0 (linesTicked rang pending (randomTicked (c .cp0))) c
 
 -- the registers; the bus is read only where the effect asks for it
 abbrev pub regsAfter : Bus → List Printer → Effect → List ℕ → List ℕ
@@ -56,7 +60,7 @@ coreAfter pending (Entry row) c = withCp0 (withEntry (row .high) (row .low) (c .
 coreAfter pending (TlbRow i row) c = c
 coreAfter pending (Ram at word) c = c
 coreAfter pending (DeviceLoad d offset) c = c
-coreAfter pending (DeviceStore offset word) c = withCp0 (withRegister Cause (causeStored (busWriteOf offset word) pending (c .cp0 .cause)) (c .cp0)) c
+coreAfter pending (DeviceStore offset word) c = withCp0 (linesStored (busWriteOf offset word) pending (c .cp0)) c
 coreAfter pending (Raise e) c = withCp0 (enteredOf e (c .pc) (c .cp0)) c
 
 abbrev pub rowsAfter : Effect → List Row → List Row

@@ -4,7 +4,8 @@ ghost use Prim.Native.Nat.{_≤_};
 ghost use lib.ListN.{length};
 ghost use Rattle.printer.specs.Tick.{anyBusy};
 ghost use Rattle.held.specs.Board.{printersIn, Told};
-ghost use Rattle.step.specs.Tick.{rangLine, cp0Ticked, coreTicked};
+ghost use Rattle.step.specs.Tick.{randomTicked, rangLine, linesTicked};
+ghost use Rattle.step.specs.Parts.{coreTicked};
 ghost use Rattle.step.specs.Held.{PrintedIs, TickIs};
 use clock::tick_of;
 use cp0::interrupt::with_line;
@@ -29,7 +30,7 @@ fn rang_line(rang: bool, cause: u32) -> u32
 }
 
 fn cp0_ticked(rang: bool, pending: u32, c: Cp0) -> Cp0
-    ensures { λ r. ⌜ r ≡ cp0Ticked rang pending c ⌝ }
+    ensures { λ r. ⌜ r ≡ linesTicked rang pending (randomTicked c) ⌝ }
 {
     Cp0 {
         index: c.index,

@@ -1,4 +1,5 @@
 -- `step::tick::cp0_ticked` meets its contract.
+use Rattle.cp0.specs.Registers.{withRegister}
 use borrow.Author.Needs.{needs}
 use Rattle.step.proofs.tick.cp0_ticked.Statement.{statement}
 use Rattle.step.proofs.tick.cp0_ticked.Tie as tie
@@ -13,6 +14,7 @@ shown-requires : tie.Need-shown-requires
 shown-requires c κs = search needs
 
 returns : tie.Need-returns
+unfolding withRegister
 returns c = cc
 
 pub cp0-ticked-spec : {M : Type 1} → statement M
