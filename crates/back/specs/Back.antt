@@ -1,6 +1,6 @@
 -- The machine of document 01 as `ring` runs it forth and back: what run has of it, and how a record is checked and undone.
 use Prim.Native.Nat.{ℕ, _≤_}
-use mathlib.Core.List.{List, []}
+use mathlib.Core.List.{[]}
 use mathlib.Core.Path.{_≡_}
 use lib.ListN.{length}
 use Rattle.ring.specs.Machine.{Machine}
@@ -9,6 +9,7 @@ use Rattle.record.specs.Layout.{recordOf}
 use Rattle.journal.specs.Journal.{slotsOf, Ready}
 use Rattle.state.specs.declared.machine.Machine as state
 use Rattle.step.specs.World.{Roms, romsOf}
+use Rattle.turn.specs.Buffers.{Beside}
 use Rattle.run.specs.Run.{forward, configOf}
 use Rattle.undo.specs.Undo.{View, viewOf, undoView, undoOf}
 use Rattle.undo.specs.Fit.{fitOf}
@@ -35,9 +36,9 @@ noRoms = romsOf [] []
 abbrev pub viewIn : state.Machine → ℕ → ℕ → View
 viewIn m ram paper = record { cpu = m .cpu; board = m .board; ram = ram; paper = paper }
 
--- k steps of the machine of an image taken back, over the journal that is lent
-abbrev pub backOf : ℕ → state.Machine → List ℕ → List ℕ → List ℕ → Took (both noRoms)
-backOf k m ram paper journal = takeBack (both noRoms) (slotsOf journal) k (configOf noRoms m ram paper journal)
+-- k steps of the machine of an image taken back, with what is lent beside it
+abbrev pub backOf : ℕ → state.Machine → Beside → Took (both noRoms)
+backOf k m b = takeBack (both noRoms) (slotsOf (b .journal)) k (configOf noRoms m b)
 
 abbrev pub howOf : Answer → How
 howOf Done = done
@@ -45,12 +46,11 @@ howOf TooFar = tooFar
 howOf Bad = badRecord
 
 -- what rows 1 to 5 leave of what is lent
-pub record Fits (paper journal : List ℕ) (m : state.Machine) : Type 0 where
-  pub short : length paper ≤ 65536
-  pub ready : Ready journal (m .journal)
+pub record Fits (b : Beside) (m : state.Machine) : Type 0 where
+  pub short : length (b .paper) ≤ 65536
+  pub ready : Ready (b .journal) (m .journal)
 
--- What taking back gives and leaves behind the references is ring's take-back. So where the answer is not Done, the machine, RAM and paper are as they were.
-abbrev pub TakeIs : ℕ → state.Machine → (ram paper journal : List ℕ) → Taken → (ram′ paper′ : List ℕ) → Type 0
-TakeIs k m ram paper journal r ram′ paper′ =
-    _≡_ {A = Took (both noRoms)} (record { config = configOf noRoms (r .machine) ram′ paper′ journal; answer = howOf (r .answer) })
-    (backOf k m ram paper journal)
+-- What taking back gives and leaves behind the references is ring's take-back: b′ is what is lent as it leaves it. So where the answer is not Done, the machine,
+-- RAM and paper are as they were.
+abbrev pub TakeIs : ℕ → state.Machine → Beside → Taken → (b′ : Beside) → Type 0
+TakeIs k m b r b′ = _≡_ {A = Took (both noRoms)} (record { config = configOf noRoms (r .machine) b′; answer = howOf (r .answer) }) (backOf k m b)

@@ -1,4 +1,5 @@
 // Taking back steps: one pass over the newest records that checks and writes nothing, one that undoes.
+ghost use Rattle.turn.specs.Buffers.{besideBack};
 ghost use Rattle.back.specs.Back.{Fits, TakeIs};
 use crate::fitting::all_fit;
 use crate::undoing::undo_all;
@@ -23,9 +24,11 @@ pub struct Taken {
 
 // Takes back `steps` steps. Where it is refused nothing is written.
 pub fn take_back(m: Machine, ram: &mut [u8], paper: &mut [u8], journal: &[u8], steps: u64) -> Taken
-    requires { ⌜ Fits (now paper) (now journal) m ⌝ }
+    requires { ⌜ Fits (besideBack (now ram) (now paper) (now journal)) m ⌝ }
     ensures { λ r. ⌜
-        TakeIs steps m (now (ram .entry)) (now (paper .entry)) (now (journal .entry)) r (now (ram .exit)) (now (paper .exit))
+        TakeIs steps m (besideBack (now (ram .entry)) (now (paper .entry)) (now (journal .entry)))
+        r
+        (besideBack (now (ram .exit)) (now (paper .exit)) (now (journal .entry)))
         ⌝ }
 {
     let mark = m.journal;

@@ -21,20 +21,22 @@ use Rattle.journal.specs.Journal.{slotsOf, ringOf}
 use Rattle.state.specs.Layout.{bytesOf, machineOf}
 use Rattle.rules.specs.Rules.{goodImage}
 use Rattle.rules.proofs.Good.{good-same}
-use Rattle.step.specs.World.{World, worldIn}
+use Rattle.step.specs.World.{World}
 use Rattle.good.specs.Good.{Good}
 use Rattle.good.proofs.Belows.{below-any}
 use Rattle.undo.specs.Undo.{View}
 use Rattle.undo.proofs.Laws.{cored}
 use Rattle.undo.proofs.Typed.{good-back}
+use Rattle.turn.specs.Buffers.{Buffers}
 use Rattle.back.specs.Back as back
 use Rattle.back.specs.Back.{noRoms}
 use Rattle.answer.specs.declared.Reason.the-variants.{NoReason}
 use Rattle.answer.specs.declared.Answer.the-variants.{Done}
 use Rattle.answer.specs.Answer.{packedOf}
 use Rattle.answer.specs.Lent.{ramFits, paperFits, journalFits}
-use Rattle.accepted.specs.After.{machineAfter}
-use Rattle.backward.specs.Back.{LeftBack, leftBackOf, doneBack, backLeaves}
+use Rattle.accepted.specs.After.{worldFrom, machineAfter}
+use Rattle.accepted.specs.Left.{Left, leftOf}
+use Rattle.backward.specs.Back.{doneBack, backLeaves}
 use Rattle.accepted.proofs.Start.{few-slots, ring-sound, image-mark, start-good}
 use Rattle.accepted.proofs.End.{end-bytes}
 use Rattle.accepted.proofs.End.{end-good}
@@ -76,98 +78,109 @@ module _ (n : ℕ) (journal : List ℕ) (next : ℕ) (w : World) where
 
 -- ---- the call
 
-pub record BackKept (left : LeftBack) (ram paper journal : List ℕ) : Type 0 where
-  pub image-good : goodImage (left .image) (length paper) (length journal) ≡ true
-  pub ram-long : length (left .ram) ≡ length ram
-  pub paper-long : length (left .paper) ≡ length paper
-  pub image-bytes : Below 256 (left .image)
-  pub ram-bytes : Below 256 (left .ram)
-  pub paper-bytes : Below 256 (left .paper)
+pub record BackKept (left : Left) (b : Buffers) : Type 0 where
+  pub image-good : goodImage (left .buffers .image) (length (b .beside .paper)) (length (b .beside .journal)) ≡ true
+  pub ram-long : length (left .buffers .beside .ram) ≡ length (b .beside .ram)
+  pub paper-long : length (left .buffers .beside .paper) ≡ length (b .beside .paper)
+  pub journal-same : left .buffers .beside .journal ≡ b .beside .journal
+  pub image-bytes : Below 256 (left .buffers .image)
+  pub ram-bytes : Below 256 (left .buffers .beside .ram)
+  pub paper-bytes : Below 256 (left .buffers .beside .paper)
 
-module _ (image ram paper journal : List ℕ) (k : ℕ) (number : backNumber image ram paper journal k ≡ 0) where
+module _ (b : Buffers) (k : ℕ) (number : backNumber b k ≡ 0) where
+  abbrev journal : List ℕ
+  journal = b .beside .journal
+
+  abbrev n : ℕ
+  n = slotsOf journal
+
   abbrev start : Ring
-  start = ringOf (machineOf image .journal) journal
+  start = ringOf (machineOf (b .image) .journal) journal
 
-  start-sound : Sound 256 (slotsOf journal) start
+  start-sound : Sound 256 n start
   start-sound =
-      let t = number-0 image ram paper journal k .0 number in
-      ring-sound journal (machineOf image .journal) (image-mark image (length paper) (length journal) (t .1 .1 .1 .0))
+      let t = number-0 b k .0 number in
+      ring-sound journal (machineOf (b .image) .journal) (image-mark (b .image) (length (b .beside .paper)) (length journal) (t .1 .1 .1 .0))
 
   -- no more is taken back than is on hand
   near : k ≤ start .hand
-  near = leb-true k (start .hand) (number-0 image ram paper journal k .0 number .1 .1 .1 .1 .0)
+  near = leb-true k (start .hand) (number-0 b k .0 number .1 .1 .1 .1 .0)
 
   -- what is lent is bytes
-  module _ (image-are : Below 256 image) (ram-are : Below 256 ram) (paper-are : Below 256 paper) (journal-are : Below 256 journal) where
+  module _ (image-are : Below 256 (b .image)) (ram-are : Below 256 (b .beside .ram)) (paper-are : Below 256 (b .beside .paper))
+      (journal-are : Below 256 journal) where
     abbrev older : World
-    older = before (slotsOf journal) journal (start .next) (worldIn (machineOf image) ram paper) k
+    older = before n journal (start .next) (worldFrom b) k
 
     older-good : Good older
     older-good =
-        let t = number-0 image ram paper journal k .0 number in
+        let t = number-0 b k .0 number in
         let s = start-sound in
-        before-good (slotsOf journal) journal (start .next) (worldIn (machineOf image) ram paper) (s .room) (s .place) journal-are
-        (start-good image ram paper (length journal) (t .1 .1 .1 .0) image-are ram-are paper-are) k (omega (arith, near, s .most)) (t .1 .1 .1 .1 .1)
+        before-good n journal (start .next) (worldFrom b) (s .room) (s .place) journal-are
+        (start-good (b .image) (b .beside .ram) (b .beside .paper) (length journal) (t .1 .1 .1 .0) image-are ram-are paper-are) k
+        (omega (arith, near, s .most)) (t .1 .1 .1 .1 .1)
 
-    done-kept : BackKept (doneLeaves image ram paper journal k) ram paper journal
+    done-kept : BackKept (doneLeaves b k) b
     done-kept =
-        let n = slotsOf journal in
         let g = lowered n k start in
-        let few = few-slots journal (number-0 image ram paper journal k .0 number .1 .1 .0) in
+        let few = few-slots journal (number-0 b k .0 number .1 .1 .0) in
         let sound = sound-lowered 256 n k start near start-sound in
-        let long = before-paper n journal (start .next) (worldIn (machineOf image) ram paper) k in
+        let long = before-paper n journal (start .next) (worldFrom b) k in
         record {
           image-good = subst (λ (l : ℕ). goodImage (bytesOf (machineAfter older g)) l (length journal) ≡ true) long (end-good older g n few older-good sound refl);
-          ram-long = before-ram n journal (start .next) (worldIn (machineOf image) ram paper) k;
+          ram-long = before-ram n journal (start .next) (worldFrom b) k;
           paper-long = long;
+          journal-same = refl;
           image-bytes = end-bytes older g n few older-good sound;
           ram-bytes = older-good .ram;
           paper-bytes = older-good .paper;
         }
 
     -- THE THEOREM
-    pub back-kept : BackKept (backLeaves image ram paper journal k) ram paper journal
-    back-kept = subst (λ (l : LeftBack). BackKept l ram paper journal) (sym (done-is image ram paper journal k number)) done-kept
+    pub back-kept : BackKept (backLeaves b k) b
+    back-kept = subst (λ (l : Left). BackKept l b) (sym (done-is b k number)) done-kept
 
 -- done or refused, the answer fits in the 64 bits that it is packed in
-pub packed-fits : (image ram paper journal : List ℕ) (k : ℕ) → packedOf (backLeaves image ram paper journal k .answer) < 2 ^ 64
-packed-fits image ram paper journal k = by (ℕ-discrete number 0)
+pub packed-fits : (b : Buffers) (k : ℕ) → packedOf (backLeaves b k .answer) < 2 ^ 64
+packed-fits b k = by (ℕ-discrete number 0)
   where
-    left : LeftBack
-    left = backLeaves image ram paper journal k
+    left : Left
+    left = backLeaves b k
 
     number : ℕ
-    number = backNumber image ram paper journal k
+    number = backNumber b k
 
     by : Dec (number ≡ 0) → packedOf (left .answer) < 2 ^ 64
     by (yes e) =
-        let d = done-steps image ram paper journal k e in
-        let most = start-sound image ram paper journal k e .most in
-        let few = few-slots journal (number-0 image ram paper journal k .0 e .1 .1 .0) in
-        omega (arith, e, d .0, d .1, near image ram paper journal k e, most, few)
+        let d = done-steps b k e in
+        let most = start-sound b k e .most in
+        let few = few-slots (b .beside .journal) (number-0 b k .0 e .1 .1 .0) in
+        omega (arith, e, d .0, d .1, near b k e, most, few)
     by (no h) =
-        let u = refused-same image ram paper journal k h in
-        omega (arith, no-other image ram paper journal k, u .no-steps, u .no-reason)
+        let u = refused-same b k h in
+        omega (arith, no-other b k, u .no-steps, u .no-reason)
 
 -- ---- "take-back of 0 [is] done and change[s] nothing"
 
-module _ (image ram paper journal : List ℕ) (ram-fits : ramFits (length ram) ≡ true) (paper-fits : paperFits (length paper) ≡ true)
-    (journal-fits : journalFits (length journal) ≡ true) (good : goodImage image (length paper) (length journal) ≡ true) where
-  none-done : backNumber image ram paper journal 0 ≡ 0
+module _ (b : Buffers) (ram-fits : ramFits (length (b .beside .ram)) ≡ true) (paper-fits : paperFits (length (b .beside .paper)) ≡ true)
+    (journal-fits : journalFits (length (b .beside .journal)) ≡ true)
+    (good : goodImage (b .image) (length (b .beside .paper)) (length (b .beside .journal)) ≡ true) where
+  none-done : backNumber b 0 ≡ 0
   unfolding allFit
   none-done =
-      number-0 image ram paper journal 0 .1
-      (ram-fits, (paper-fits, (journal-fits, (good, (le-leb 0 (machineOf image .journal .«on_hand») (omega arith), refl)))))
+      number-0 b 0 .1 (ram-fits, (paper-fits, (journal-fits, (good, (le-leb 0 (machineOf (b .image) .journal .«on_hand») (omega arith), refl)))))
 
-  pub back-none : Below 256 image → backLeaves image ram paper journal 0 ≡ leftBackOf (Done 0 NoReason) image ram paper
+  pub back-none : Below 256 (b .image) → backLeaves b 0 ≡ leftOf (Done 0 NoReason) b
   back-none small =
-      let m = machineOf image in
+      let mark = machineOf (b .image) .journal in
+      let journal = b .beside .journal in
       let n = slotsOf journal in
-      let w = worldIn m ram paper in
-      let next : slotBack n (m .journal .«next_slot») 0 ≡ m .journal .«next_slot» = back-on n (m .journal .«next_slot») 0 (omega arith) ∙ sub-zero (m .journal .«next_slot») in
-      let same : lowered n 0 (ringOf (m .journal) journal) ≡ ringOf (m .journal) journal =
-      λ i. record { bytes = journal; hand = sub-zero (m .journal .«on_hand») i; next = next i } in
-      done-is image ram paper journal 0 none-done
-      ∙ ap (λ (s : World). doneBack 0 s (lowered n 0 (ringOf (m .journal) journal))) (undone-none (back.both noRoms) n journal (m .journal .«next_slot») w)
-      ∙ ap (doneBack 0 w) same
-      ∙ ap (λ (b : List ℕ). leftBackOf (Done 0 NoReason) b ram paper) (good-same image (length paper) (length journal) small good)
+      let w = worldFrom b in
+      let next : slotBack n (mark .«next_slot») 0 ≡ mark .«next_slot» = back-on n (mark .«next_slot») 0 (omega arith) ∙ sub-zero (mark .«next_slot») in
+      let same : lowered n 0 (ringOf mark journal) ≡ ringOf mark journal =
+      λ i. record { bytes = journal; hand = sub-zero (mark .«on_hand») i; next = next i } in
+      done-is b 0 none-done
+      ∙ ap (λ (s : World). doneBack 0 (b .beside) s (lowered n 0 (ringOf mark journal))) (undone-none (back.both noRoms) n journal (mark .«next_slot») w)
+      ∙ ap (doneBack 0 (b .beside) w) same
+      ∙ ap (λ (image : List ℕ). leftOf (Done 0 NoReason) (record { image = image; beside = b .beside }))
+      (good-same (b .image) (length (b .beside .paper)) (length journal) small good)

@@ -9,13 +9,14 @@ use borrow.Author.Tests.{le-leb, lt-leb, leb-true}
 use lib.Dec.{leb}
 use lib.ListN.{length}
 use Rattle.ring.specs.Slots.{Ring, lowered}
+use Rattle.ring.specs.Run.{Config}
 use Rattle.ring.specs.Back.{How, Took, undone, allFit, done, tooFar, badRecord}
 use Rattle.ring.proofs.Slots.{by-leb}
 use Rattle.ring.proofs.Back.{back-far, back-bad, back-done}
 use Rattle.journal.specs.Journal.{slotsOf, ringOf}
 use Rattle.state.specs.Layout.{machineOf}
 use Rattle.rules.specs.Rules.{goodImage}
-use Rattle.step.specs.World.{World, worldIn}
+use Rattle.turn.specs.Buffers.{Buffers}
 use Rattle.run.specs.Run.{configOf}
 use Rattle.back.specs.Back.{both, noRoms, backOf}
 use Rattle.answer.specs.declared.Refusal.the-variants.{Ram, Paper, Journal, Image}
@@ -24,7 +25,9 @@ use Rattle.answer.specs.declared.lent.Test.{Test}
 use Rattle.answer.specs.declared.lent.Test.the-variants.{Passed, Failed}
 use Rattle.answer.specs.Answer.{numberOf, reasonOf, stepsOf}
 use Rattle.answer.specs.Lent.{ramFits, paperFits, journalFits, andThen}
-use Rattle.backward.specs.Back.{buffersTest, ruleTest, backTest, LeftBack, leftBackOf, doneBack, leftHow, tookLeaves, triedBack, leftBackBy, backLeaves}
+use Rattle.accepted.specs.After.{worldFrom}
+use Rattle.accepted.specs.Left.{Left, leftOf, leftBy, Unchanged}
+use Rattle.backward.specs.Back.{buffersTest, ruleTest, backTest, doneBack, leftHow, tookLeaves, triedBack, backLeaves}
 
 -- ---- six tests in a row
 
@@ -50,9 +53,9 @@ abbrev triedNumber : Bool → Bool → ℕ
 triedNumber e f = cond e (cond f 0 8) 7
 
 -- which tests led to which number
-module _ (tried : LeftBack) (image ram paper : List ℕ) where
+module _ (tried : Left) (buffers : Buffers) where
   abbrev numbered : Test → ℕ
-  numbered t = numberOf (leftBackBy t tried image ram paper .answer)
+  numbered t = numberOf (leftBy t tried buffers .answer)
 
   by-number : (a b c d e f : Bool) → numberOf (tried .answer) ≡ triedNumber e f → Says (numbered (testOf a b c d)) a b c d e f
   by-number true true true true true true is =
@@ -94,102 +97,96 @@ at-most (suc (suc (suc (suc (suc (suc (suc (suc (suc n))))))))) a b c d e f s = 
 
 -- ---- a refusal
 
--- every byte is as it was, and nothing was taken back
-pub record UnchangedBack (left : LeftBack) (image ram paper : List ℕ) : Type 0 where
-  pub image-same : left .image ≡ image
-  pub ram-same : left .ram ≡ ram
-  pub paper-same : left .paper ≡ paper
-  pub no-steps : stepsOf (left .answer) ≡ 0
-  pub no-reason : reasonOf (left .answer) ≡ 0
-
-unchanged-took : (k : ℕ) (image ram paper : List ℕ) (t : Took (both noRoms)) →
-    let left = tookLeaves k image ram paper t in (numberOf (left .answer) ≡ 0 → ⊥) → UnchangedBack left image ram paper
-unchanged-took k image ram paper t h = by (t .answer) h
+unchanged-took : (k : ℕ) (buffers : Buffers) (t : Took (both noRoms)) →
+    let left = tookLeaves k buffers t in (numberOf (left .answer) ≡ 0 → ⊥) → Unchanged left buffers
+unchanged-took k buffers t h = by (t .answer) h
   where
     by : (how : How) →
-        let left = leftHow how (doneBack k (t .config .state) (t .config .ring)) image ram paper in
-        (numberOf (left .answer) ≡ 0 → ⊥) → UnchangedBack left image ram paper
+        let left = leftHow how (doneBack k (buffers .beside) (t .config .state) (t .config .ring)) buffers in
+        (numberOf (left .answer) ≡ 0 → ⊥) → Unchanged left buffers
     by done h = absurd (h refl)
-    by tooFar h = record { image-same = refl; ram-same = refl; paper-same = refl; no-steps = refl; no-reason = refl }
-    by badRecord h = record { image-same = refl; ram-same = refl; paper-same = refl; no-steps = refl; no-reason = refl }
+    by tooFar h = record { same = refl; no-steps = refl; no-reason = refl }
+    by badRecord h = record { same = refl; no-steps = refl; no-reason = refl }
 
-unchanged : (t : Test) (tried : LeftBack) (image ram paper : List ℕ) → ((numberOf (tried .answer) ≡ 0 → ⊥) → UnchangedBack tried image ram paper) →
-    let left = leftBackBy t tried image ram paper in (numberOf (left .answer) ≡ 0 → ⊥) → UnchangedBack left image ram paper
-unchanged Passed tried image ram paper took h = took h
-unchanged (Failed refusal) tried image ram paper took h =
-    record { image-same = refl; ram-same = refl; paper-same = refl; no-steps = refl; no-reason = refl }
+unchanged : (t : Test) (tried : Left) (buffers : Buffers) → ((numberOf (tried .answer) ≡ 0 → ⊥) → Unchanged tried buffers) →
+    let left = leftBy t tried buffers in (numberOf (left .answer) ≡ 0 → ⊥) → Unchanged left buffers
+unchanged Passed tried buffers took h = took h
+unchanged (Failed refusal) tried buffers took h = record { same = refl; no-steps = refl; no-reason = refl }
 
 -- ---- the call
 
-module _ (image ram paper journal : List ℕ) (k : ℕ) where
-  abbrev left : LeftBack
-  left = backLeaves image ram paper journal k
+module _ (buffers : Buffers) (k : ℕ) where
+  abbrev left : Left
+  left = backLeaves buffers k
 
-  abbrev tried : LeftBack
-  tried = triedBack image ram paper journal k
+  abbrev tried : Left
+  tried = triedBack buffers k
 
   abbrev pub backNumber : ℕ
   backNumber = numberOf (left .answer)
 
-  abbrev mark : Ring
-  mark = ringOf (machineOf image .journal) journal
+  abbrev journal : List ℕ
+  journal = buffers .beside .journal
 
-  abbrev world : World
-  world = worldIn (machineOf image) ram paper
+  abbrev n : ℕ
+  n = slotsOf journal
+
+  abbrev mark : Ring
+  mark = ringOf (machineOf (buffers .image) .journal) journal
 
   -- rows 1, 3, 4, 5, 7 and 8 of the numbers, as tests
   abbrev row-1 : Bool
-  row-1 = ramFits (length ram)
+  row-1 = ramFits (length (buffers .beside .ram))
 
   abbrev row-3 : Bool
-  row-3 = paperFits (length paper)
+  row-3 = paperFits (length (buffers .beside .paper))
 
   abbrev row-4 : Bool
   row-4 = journalFits (length journal)
 
   abbrev row-5 : Bool
-  row-5 = goodImage image (length paper) (length journal)
+  row-5 = goodImage (buffers .image) (length (buffers .beside .paper)) (length journal)
 
   -- no more is asked than the image has on hand
   abbrev row-7 : Bool
-  row-7 = leb k (machineOf image .journal .«on_hand»)
+  row-7 = leb k (mark .hand)
 
   -- each of the k newest records is well formed in the state that undoing the newer ones gives
   abbrev row-8 : Bool
-  row-8 = allFit (both noRoms) (slotsOf journal) journal (machineOf image .journal .«next_slot») k world
+  row-8 = allFit (both noRoms) n journal (mark .next) k (worldFrom buffers)
 
   -- the state with the k newest records undone, and the ring with them given up
-  abbrev pub doneLeaves : LeftBack
-  doneLeaves = doneBack k (undone (both noRoms) (slotsOf journal) journal (machineOf image .journal .«next_slot») k world) (lowered (slotsOf journal) k mark)
+  abbrev pub doneLeaves : Left
+  doneLeaves = doneBack k (buffers .beside) (undone (both noRoms) n journal (mark .next) k (worldFrom buffers)) (lowered n k mark)
+
+  abbrev here : Config (both noRoms .forward)
+  here = configOf noRoms (machineOf (buffers .image)) (buffers .beside)
 
   tried-done : row-7 ≡ true → row-8 ≡ true → tried ≡ doneLeaves
   unfolding triedBack
-  tried-done near fit =
-      rw (back-done (both noRoms) (slotsOf journal) (configOf noRoms (machineOf image) ram paper journal) k (leb-true k (machineOf image .journal .«on_hand») near) fit)
+  tried-done near fit = rw (back-done (both noRoms) n here k (leb-true k (mark .hand) near) fit)
 
   tried-number : numberOf (tried .answer) ≡ triedNumber row-7 row-8
   unfolding triedBack
   tried-number =
-      let hand = machineOf image .journal .«on_hand» in
-      let c = configOf noRoms (machineOf image) ram paper journal in
-      by-leb k hand
-      (λ l. rw (le-leb k hand l) (near l row-8 refl))
-      (λ l. rw (lt-leb k hand l, back-far (both noRoms) (slotsOf journal) c k l))
+      by-leb k (mark .hand)
+      (λ l. rw (le-leb k (mark .hand) l) (near l row-8 refl))
+      (λ l. rw (lt-leb k (mark .hand) l, back-far (both noRoms) n here k l))
     where
-      near : k ≤ machineOf image .journal .«on_hand» → (f : Bool) → row-8 ≡ f → numberOf (tookLeaves k image ram paper (backOf k (machineOf image) ram paper journal) .answer) ≡ cond row-8 0 8
-      near l true e = rw (e, back-done (both noRoms) (slotsOf journal) (configOf noRoms (machineOf image) ram paper journal) k l e)
-      near l false e = rw (e, back-bad (both noRoms) (slotsOf journal) (configOf noRoms (machineOf image) ram paper journal) k l e)
+      near : k ≤ mark .hand → (f : Bool) → row-8 ≡ f → numberOf (tookLeaves k buffers (backOf k (machineOf (buffers .image)) (buffers .beside)) .answer) ≡ cond row-8 0 8
+      near l true e = rw (e, back-done (both noRoms) n here k l e)
+      near l false e = rw (e, back-bad (both noRoms) n here k l e)
 
   says : Says backNumber row-1 row-3 row-4 row-5 row-7 row-8
   unfolding backLeaves buffersTest ruleTest
-  says = by-number tried image ram paper row-1 row-3 row-4 row-5 row-7 row-8 tried-number
+  says = by-number tried buffers row-1 row-3 row-4 row-5 row-7 row-8 tried-number
 
   -- each number is answered exactly when its row fails and no lower row does
-  exact : (n : ℕ) → (backNumber ≡ n) ↔ Says n row-1 row-3 row-4 row-5 row-7 row-8
+  exact : (number : ℕ) → (backNumber ≡ number) ↔ Says number row-1 row-3 row-4 row-5 row-7 row-8
   unfolding backLeaves buffersTest ruleTest
-  exact n = (
+  exact number = (
     λ h. subst (λ (j : ℕ). Says j row-1 row-3 row-4 row-5 row-7 row-8) h says,
-    λ h. by-tests tried image ram paper n row-1 row-3 row-4 row-5 row-7 row-8 tried-number h,
+    λ h. by-tests tried buffers number row-1 row-3 row-4 row-5 row-7 row-8 tried-number h,
   )
 
   pub number-1 : (backNumber ≡ 1) ↔ (row-1 ≡ false)
@@ -224,13 +221,12 @@ module _ (image ram paper journal : List ℕ) (k : ℕ) where
   no-other = at-most backNumber row-1 row-3 row-4 row-5 row-7 row-8 says
 
   -- a refusal leaves every byte as it was
-  pub refused-same : (backNumber ≡ 0 → ⊥) → UnchangedBack left image ram paper
+  pub refused-same : (backNumber ≡ 0 → ⊥) → Unchanged left buffers
   unfolding backLeaves triedBack
   refused-same h =
-      unchanged (backTest image ram paper journal) tried image ram paper
-      (unchanged-took k image ram paper (backOf k (machineOf image) ram paper journal)) h
+      unchanged (backTest buffers) tried buffers (unchanged-took k buffers (backOf k (machineOf (buffers .image)) (buffers .beside))) h
 
-  passed : backNumber ≡ 0 → backTest image ram paper journal ≡ Passed
+  passed : backNumber ≡ 0 → backTest buffers ≡ Passed
   unfolding buffersTest ruleTest
   passed e =
       let h = number-0 .0 e in
@@ -241,17 +237,16 @@ module _ (image ram paper journal : List ℕ) (k : ℕ) where
   unfolding backLeaves
   done-is e =
       let h = number-0 .0 e in
-      ap (λ (t : Test). leftBackBy t tried image ram paper) (passed e) ∙ tried-done (h .1 .1 .1 .1 .0) (h .1 .1 .1 .1 .1)
+      ap (λ (t : Test). leftBy t tried buffers) (passed e) ∙ tried-done (h .1 .1 .1 .1 .0) (h .1 .1 .1 .1 .1)
 
   -- "A done take-back of k reports k and no reason"
   pub done-steps : backNumber ≡ 0 → (stepsOf (left .answer) ≡ k) × (reasonOf (left .answer) ≡ 0)
   done-steps e =
       let d = done-is e in
-      (ap (λ (l : LeftBack). stepsOf (l .answer)) d, ap (λ (l : LeftBack). reasonOf (l .answer)) d)
+      (ap (λ (l : Left). stepsOf (l .answer)) d, ap (λ (l : Left). reasonOf (l .answer)) d)
 
   -- what two calls answer and leave that both keep the contract is the same
-  pub one-answer : {r₁ r₂ : Answer} {image₁ image₂ ram₁ ram₂ paper₁ paper₂ : List ℕ} → leftBackOf r₁ image₁ ram₁ paper₁ ≡ left →
-      leftBackOf r₂ image₂ ram₂ paper₂ ≡ left → (r₁ ≡ r₂) × ((image₁ ≡ image₂) × ((ram₁ ≡ ram₂) × (paper₁ ≡ paper₂)))
+  pub one-answer : {r₁ r₂ : Answer} {after₁ after₂ : Buffers} → leftOf r₁ after₁ ≡ left → leftOf r₂ after₂ ≡ left → (r₁ ≡ r₂) × (after₁ ≡ after₂)
   one-answer p q =
       let e = p ∙ sym q in
-      (ap (λ (l : LeftBack). l .answer) e, (ap (λ (l : LeftBack). l .image) e, (ap (λ (l : LeftBack). l .ram) e, ap (λ (l : LeftBack). l .paper) e)))
+      (ap (λ (l : Left). l .answer) e, ap (λ (l : Left). l .buffers) e)

@@ -10,11 +10,13 @@ use Rattle.state.specs.Layout.{bytesOf, machineOf}
 use Rattle.state.specs.declared.machine.Machine.{Machine}
 use Rattle.rules.specs.Rules.{goodImage}
 use Rattle.step.specs.World.{World}
+use Rattle.turn.specs.Buffers.{Beside, Buffers}
 use Rattle.back.specs.Back.{both, noRoms, backOf}
 use Rattle.back.specs.declared.Answer as back
 use Rattle.back.specs.declared.Answer.the-variants as how
 use Rattle.answer.specs.Lent.{ramFits, paperFits, journalFits, andThen}
-use Rattle.accepted.specs.After.{machineAfter}
+use Rattle.accepted.specs.After.{buffersAfter}
+use Rattle.accepted.specs.Left.{Left, leftOf, leftBy}
 use Rattle.answer.specs.declared.Reason.the-variants.{NoReason}
 use Rattle.answer.specs.declared.Refusal.the-variants.{Ram, Paper, Journal, Image, TooFar, BadRecord}
 use Rattle.answer.specs.declared.Answer.{Answer}
@@ -29,52 +31,45 @@ unfoldable pub buffersTest : (ram paper journal : ℕ) → Test
 buffersTest ram paper journal =
     cond (ramFits ram) (cond (paperFits paper) (cond (journalFits journal) Passed (Failed Journal)) (Failed Paper)) (Failed Ram)
 
--- row 5: the image is not 501 bytes or breaks a rule
-unfoldable pub ruleTest : List ℕ → (paper journal : ℕ) → Test
-ruleTest image paper journal = cond (goodImage image paper journal) Passed (Failed Image)
+abbrev pub besideBackTest : Beside → Test
+besideBackTest b = buffersTest (length (b .ram)) (length (b .paper)) (length (b .journal))
 
-abbrev pub backTest : (image ram paper journal : List ℕ) → Test
-backTest image ram paper journal =
-    andThen (buffersTest (length ram) (length paper) (length journal)) (ruleTest image (length paper) (length journal))
+-- row 5: the image is not 501 bytes or breaks a rule
+unfoldable pub ruleTest : Buffers → Test
+ruleTest b = cond (goodImage (b .image) (length (b .beside .paper)) (length (b .beside .journal))) Passed (Failed Image)
+
+abbrev pub backTest : Buffers → Test
+backTest b = andThen (besideBackTest (b .beside)) (ruleTest b)
 
 -- ---- what is left
 
-pub record LeftBack : Type 0 where
-  pub answer : Answer
-  pub image : List ℕ
-  pub ram : List ℕ
-  pub paper : List ℕ
-
-abbrev pub leftBackOf : Answer → List ℕ → List ℕ → List ℕ → LeftBack
-leftBackOf answer image ram paper = record { answer = answer; image = image; ram = ram; paper = paper }
-
--- "A done take-back of k reports k and no reason", and leaves the state of k steps before, with the ring's on hand and next slot
-abbrev pub doneBack : ℕ → World → Ring → LeftBack
-doneBack k w g = leftBackOf (Done k NoReason) (bytesOf (machineAfter w g)) (w .ram) (w .paper)
+-- "A done take-back of k reports k and no reason", and leaves the state of k steps before, with the ring's on hand and next slot: taking back "leaves the journal's
+-- bytes", which are the ring's
+abbrev pub doneBack : ℕ → Beside → World → Ring → Left
+doneBack k b w g = leftOf (Done k NoReason) (buffersAfter b w g)
 
 -- rows 7 and 8, which leave every byte
-abbrev pub leftHow : How → LeftBack → (image ram paper : List ℕ) → LeftBack
-leftHow done back image ram paper = back
-leftHow tooFar back image ram paper = leftBackOf (Refused TooFar) image ram paper
-leftHow badRecord back image ram paper = leftBackOf (Refused BadRecord) image ram paper
+abbrev pub leftHow : How → Left → Buffers → Left
+leftHow done back b = back
+leftHow tooFar back b = leftOf (Refused TooFar) b
+leftHow badRecord back b = leftOf (Refused BadRecord) b
 
-abbrev pub tookLeaves : ℕ → (image ram paper : List ℕ) → Took (both noRoms) → LeftBack
-tookLeaves k image ram paper t = leftHow (t .answer) (doneBack k (t .config .state) (t .config .ring)) image ram paper
+abbrev pub tookLeaves : ℕ → Buffers → Took (both noRoms) → Left
+tookLeaves k b t = leftHow (t .answer) (doneBack k (b .beside) (t .config .state) (t .config .ring)) b
 
-unfoldable pub triedBack : (image ram paper journal : List ℕ) → ℕ → LeftBack
-triedBack image ram paper journal k = tookLeaves k image ram paper (backOf k (machineOf image) ram paper journal)
-
--- a refusal leaves every byte
-abbrev pub leftBackBy : Test → LeftBack → (image ram paper : List ℕ) → LeftBack
-leftBackBy Passed tried image ram paper = tried
-leftBackBy (Failed refusal) tried image ram paper = leftBackOf (Refused refusal) image ram paper
+unfoldable pub triedBack : Buffers → ℕ → Left
+triedBack b k = tookLeaves k b (backOf k (machineOf (b .image)) (b .beside))
 
 -- THE CALL
-unfoldable pub backLeaves : (image ram paper journal : List ℕ) → ℕ → LeftBack
-backLeaves image ram paper journal k =
-    leftBackBy (backTest image ram paper journal) (triedBack image ram paper journal k) image ram paper
+unfoldable pub backLeaves : Buffers → ℕ → Left
+backLeaves b k = leftBy (backTest b) (triedBack b k) b
 
--- ---- for the code: what is answered and the image, by how taking back on a decoded machine ended and the machine that it gave
+-- ---- for the code: the call of lengths that are allowed
+
+abbrev pub ruleLeaves : Buffers → ℕ → Left
+ruleLeaves b k = leftBy (ruleTest b) (triedBack b k) b
+
+-- what is answered and the image, by how taking back on a decoded machine ended and the machine that it gave
 
 abbrev pub answerBack : back.Answer → ℕ → Answer
 answerBack how.Done k = Done k NoReason

@@ -5,7 +5,9 @@ ghost use lib.ListN.{length};
 ghost use Rattle.ring.specs.Back.{done};
 ghost use Rattle.back.specs.Back.{Fits};
 ghost use Rattle.state.specs.Layout.{machineOf};
-ghost use Rattle.backward.specs.Back.{buffersTest, ruleTest, leftBackOf, ToldIs, triedBack, leftBackBy, backLeaves};
+ghost use Rattle.turn.specs.Buffers.{besideBack, buffersBack};
+ghost use Rattle.accepted.specs.Left.{leftOf};
+ghost use Rattle.backward.specs.Back.{buffersTest, besideBackTest, ToldIs, triedBack, ruleLeaves, backLeaves};
 use answer::Answer;
 use answer::Reason;
 use answer::Refusal;
@@ -60,10 +62,10 @@ fn tried(
 ) -> Answer
     requires { ⌜ machine ≡ machineOf (now image) ⌝ }
     requires { ⌜ length (now image) ≡ 501 ⌝ }
-    requires { ⌜ Fits (now paper) (now journal) machine ⌝ }
+    requires { ⌜ Fits (besideBack (now ram) (now paper) (now journal)) machine ⌝ }
     ensures { λ r. ⌜
-        leftBackOf r (now (image .exit)) (now (ram .exit)) (now (paper .exit))
-        ≡ triedBack (now (image .entry)) (now (ram .entry)) (now (paper .entry)) (now (journal .entry)) steps
+        leftOf r (buffersBack (now (image .exit)) (now (ram .exit)) (now (paper .exit)) (now (journal .entry)))
+        ≡ triedBack (buffersBack (now (image .entry)) (now (ram .entry)) (now (paper .entry)) (now (journal .entry))) steps
         ⌝ }
 {
     let taken = back::take_back(machine, ram, paper, journal, steps);
@@ -80,12 +82,10 @@ fn with_image(
     journal: &[u8],
     steps: u64,
 ) -> Answer
-    requires { ⌜ buffersTest (length (now ram)) (length (now paper)) (length (now journal)) ≡ Test.Passed ⌝ }
+    requires { ⌜ besideBackTest (besideBack (now ram) (now paper) (now journal)) ≡ Test.Passed ⌝ }
     ensures { λ r. ⌜
-        leftBackOf r (now (image .exit)) (now (ram .exit)) (now (paper .exit))
-        ≡ leftBackBy (ruleTest (now (image .entry)) (length (now (paper .entry))) (length (now (journal .entry))))
-        (triedBack (now (image .entry)) (now (ram .entry)) (now (paper .entry)) (now (journal .entry)) steps)
-        (now (image .entry)) (now (ram .entry)) (now (paper .entry))
+        leftOf r (buffersBack (now (image .exit)) (now (ram .exit)) (now (paper .exit)) (now (journal .entry)))
+        ≡ ruleLeaves (buffersBack (now (image .entry)) (now (ram .entry)) (now (paper .entry)) (now (journal .entry))) steps
         ⌝ }
 {
     if image.len() != 501 {
@@ -107,8 +107,8 @@ pub fn take_back(
     steps: u64,
 ) -> Answer
     ensures { λ r. ⌜
-        leftBackOf r (now (image .exit)) (now (ram .exit)) (now (paper .exit))
-        ≡ backLeaves (now (image .entry)) (now (ram .entry)) (now (paper .entry)) (now (journal .entry)) steps
+        leftOf r (buffersBack (now (image .exit)) (now (ram .exit)) (now (paper .exit)) (now (journal .entry)))
+        ≡ backLeaves (buffersBack (now (image .entry)) (now (ram .entry)) (now (paper .entry)) (now (journal .entry))) steps
         ⌝ }
 {
     let test = buffers_test(ram.len(), paper.len(), journal.len());

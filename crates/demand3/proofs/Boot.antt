@@ -21,7 +21,7 @@ use Rattle.back.specs.Back.{both}
 use Rattle.back.specs.Allowed.{Allowed}
 use Rattle.back.proofs.Law.{laws}
 use Rattle.reset.specs.Reset.{resetMachine}
-use Rattle.demand3.specs.Demand3.{Boot, Booted, romsIn, resetTo, worldAt}
+use Rattle.demand3.specs.Demand3.{Boot, Booted, romsAt, resetTo, worldAt}
 use Rattle.reset.proofs.Answers.{in-range}
 use Rattle.reset.proofs.Keeps.{well-typed}
 use Rattle.reset.proofs.Theorems as reset
@@ -33,50 +33,50 @@ module _ (b : Boot) (p : Booted b) where
 
   typed : WellTyped machine
   typed =
-      let h = reset.number-0 (b .image) (b .scale) (b .delay) (b .installed) .0 (p .reset-done) in
+      let h = reset.number-0 (b .buffers .image) (b .scale) (b .delay) (b .installed) .0 (p .reset-done) in
       well-typed (b .scale) (b .delay) (b .installed) (in-range (b .scale) (b .delay) (b .installed) (h .1))
 
-  pub boot-image : resetTo b .image ≡ bytesOf machine
-  boot-image = reset.done-image (b .image) (b .scale) (b .delay) (b .installed) (p .reset-done)
+  pub boot-image : resetTo b .buffers .image ≡ bytesOf machine
+  boot-image = reset.done-image (b .buffers .image) (b .scale) (b .delay) (b .installed) (p .reset-done)
 
-  pub boot-machine : machineOf (resetTo b .image) ≡ machine
+  pub boot-machine : machineOf (resetTo b .buffers .image) ≡ machine
   boot-machine = ap machineOf boot-image ∙ decode-encode machine typed
 
   -- "Reset empties it"
-  pub boot-mark : machineOf (resetTo b .image) .journal ≡ noMark
+  pub boot-mark : machineOf (resetTo b .buffers .image) .journal ≡ noMark
   unfolding resetMachine
   boot-mark = ap (λ (m : Machine). m .journal) boot-machine
 
-  boot-bytes : Below 256 (resetTo b .image)
+  boot-bytes : Below 256 (resetTo b .buffers .image)
   boot-bytes = subst (λ (l : List ℕ). Below 256 l) (sym boot-image) (image-bytes machine typed)
 
-  pub boot-allowed : Allowed (romsIn b) (worldAt (resetTo b))
+  pub boot-allowed : Allowed (romsAt b) (worldAt (resetTo b))
   boot-allowed =
       record {
         good =
-            start-good (resetTo b .image) (b .ram) (b .paper) (length (b .journal))
-            (reset.done-keeps (b .image) (b .scale) (b .delay) (b .installed) (p .reset-done) (length (b .paper)) (length (b .journal)))
+            start-good (resetTo b .buffers .image) (b .buffers .beside .ram) (b .buffers .beside .paper) (length (b .buffers .beside .journal))
+            (reset.done-keeps (b .buffers .image) (b .scale) (b .delay) (b .installed) (p .reset-done) (length (b .buffers .beside .paper)) (length (b .buffers .beside .journal)))
             boot-bytes (p .ram-bytes) (p .paper-bytes);
-        whole = lent-whole (b .execution) (b .bootstrap) (b .ram) (p .ram-fits) (p .roms-fit);
-        short = leb-true (length (b .paper)) 65536 (word.both (leb (length (b .paper)) 65536) (eqb (length (b .paper) % 8) 0) (p .paper-fits) .0);
+        whole = lent-whole (b .buffers .beside .execution) (b .buffers .beside .bootstrap) (b .buffers .beside .ram) (p .ram-fits) (p .roms-fit);
+        short = leb-true (length (b .buffers .beside .paper)) 65536 (word.both (leb (length (b .buffers .beside .paper)) 65536) (eqb (length (b .buffers .beside .paper) % 8) 0) (p .paper-fits) .0);
       }
 
-  pub boot-laws : Laws (both (romsIn b)) (Allowed (romsIn b))
-  boot-laws = laws (romsIn b) (p .execution-bytes) (p .bootstrap-bytes)
+  pub boot-laws : Laws (both (romsAt b)) (Allowed (romsAt b))
+  boot-laws = laws (romsAt b) (p .execution-bytes) (p .bootstrap-bytes)
 
   -- ---- where iterating the step leads from there
 
   abbrev later : ℕ → World
-  later m = iterate (forward (romsIn b)) m (worldAt (resetTo b))
+  later m = iterate (forward (romsAt b)) m (worldAt (resetTo b))
 
-  pub later-allowed : (m : ℕ) → Allowed (romsIn b) (later m)
-  later-allowed = iterate-good (both (romsIn b)) (worldAt (resetTo b)) (length (b .journal)) boot-laws boot-allowed
+  pub later-allowed : (m : ℕ) → Allowed (romsAt b) (later m)
+  later-allowed = iterate-good (both (romsAt b)) (worldAt (resetTo b)) (length (b .buffers .beside .journal)) boot-laws boot-allowed
 
-  pub later-long : (m : ℕ) → (length (later m .ram) ≡ length (b .ram)) × (length (later m .paper) ≡ length (b .paper))
+  pub later-long : (m : ℕ) → (length (later m .ram) ≡ length (b .buffers .beside .ram)) × (length (later m .paper) ≡ length (b .buffers .beside .paper))
   later-long zero = (refl, refl)
   later-long (suc m) =
       let a = later-allowed m in
       let some : 0 < length (later m .cpu .tlb) = omega (arith, a .good .typed .sized .tlb) in
-      let same = step-lengths (romsIn b) (later m) (a .whole) some in
+      let same = step-lengths (romsAt b) (later m) (a .whole) some in
       let before = later-long m in
       (same .ram ∙ before .0, same .paper ∙ before .1)

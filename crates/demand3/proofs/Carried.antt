@@ -13,72 +13,72 @@ use Rattle.state.specs.Layout.{bytesOf, machineOf}
 use Rattle.state.specs.declared.machine.Machine.{Machine}
 use Rattle.state.specs.declared.machine.Journal.{Journal}
 use Rattle.rules.specs.Rules.{goodImage}
-use Rattle.step.specs.World.{World}
+use Rattle.step.specs.World.{World, Roms}
+use Rattle.turn.specs.Buffers.{Beside, Buffers, romsIn, besideAfter}
 use Rattle.run.specs.Run.{forward, configOf}
 use Rattle.back.specs.Back.{both}
 use Rattle.back.specs.Allowed.{Allowed}
-use Rattle.answer.specs.Lent.{ramFits, paperFits, journalFits}
-use Rattle.accepted.specs.After.{machineAfter}
-use Rattle.demand3.specs.Demand3.{Host, Boot, Booted, romsIn, resetTo, worldAt}
+use Rattle.answer.specs.Lent.{ramFits, romsFit, paperFits, journalFits}
+use Rattle.accepted.specs.After.{machineAfter, buffersAfter}
+use Rattle.demand3.specs.Demand3.{Host, Boot, Booted, romsAt, resetTo, worldAt}
 use Rattle.accepted.proofs.Start.{few-slots}
 use Rattle.accepted.proofs.End.{end-good}
 use Rattle.accepted.proofs.End.{end-read}
 use Rattle.demand3.proofs.Boot.{boot-image, boot-machine, boot-mark, boot-allowed, boot-laws, later-allowed, later-long}
 
 -- the past that a host's bytes are of
-abbrev pub pastIn : (b : Boot) → Config (forward (romsIn b)) → List Event → Past (both (romsIn b))
+abbrev pub pastIn : (b : Boot) → Config (forward (romsAt b)) → List Event → Past (both (romsAt b))
 pastIn b c events = record { config = c; events = events }
 
-abbrev pub configAt : (b : Boot) → Host → Config (forward (romsIn b))
-configAt b h = configOf (romsIn b) (machineOf (h .image)) (h .ram) (h .paper) (h .journal)
+abbrev pub configAt : (b : Boot) → Host → Config (forward (romsAt b))
+configAt b h = configOf (romsAt b) (machineOf (h .buffers .image)) (h .buffers .beside)
 
 module _ (b : Boot) (p : Booted b) where
-  abbrev pub KeptIn : ℕ → Config (forward (romsIn b)) → List Event → Type 0
-  KeptIn n c events = Kept (both (romsIn b)) (worldAt (resetTo b)) (length (b .journal)) (boot-laws b p) (boot-allowed b p) n (pastIn b c events)
+  abbrev pub KeptIn : ℕ → Config (forward (romsAt b)) → List Event → Type 0
+  KeptIn n c events = Kept (both (romsAt b)) (worldAt (resetTo b)) (length (b .buffers .beside .journal)) (boot-laws b p) (boot-allowed b p) n (pastIn b c events)
 
   pub record Carried (h : Host) : Type 0 where
-    pub kept : KeptIn (slotsOf (b .journal)) (configAt b h) (h .events)
+    pub kept : KeptIn (slotsOf (b .buffers .beside .journal)) (configAt b h) (h .events)
+    -- no call writes the ROMs
+    pub roms-same : romsIn (h .buffers .beside) ≡ romsAt b
     -- the image says nothing but its machine
-    pub image-is : h .image ≡ bytesOf (machineOf (h .image))
+    pub image-is : h .buffers .image ≡ bytesOf (machineOf (h .buffers .image))
 
   pub carried-start : Carried (resetTo b)
   carried-start =
       let w = worldAt (resetTo b) in
       record {
         kept =
-            subst (λ (mark : Journal). KeptIn (slotsOf (b .journal)) (record { state = w; ring = ringOf mark (b .journal) }) []) (sym (boot-mark b p))
-            (kept-start (both (romsIn b)) w (length (b .journal)) (boot-laws b p) (boot-allowed b p) (slotsOf (b .journal)) (b .journal) refl (omega arith));
+            subst (λ (mark : Journal). KeptIn (slotsOf (b .buffers .beside .journal)) (record { state = w; ring = ringOf mark (b .buffers .beside .journal) }) []) (sym (boot-mark b p))
+            (kept-start (both (romsAt b)) w (length (b .buffers .beside .journal)) (boot-laws b p) (boot-allowed b p) (slotsOf (b .buffers .beside .journal)) (b .buffers .beside .journal) refl (omega arith));
+        roms-same = refl;
         image-is = boot-image b p ∙ ap bytesOf (sym (boot-machine b p));
       }
 
   -- ---- what was kept, laid down in an image
 
-  module _ (c : Config (forward (romsIn b))) (events : List Event) (k : KeptIn (slotsOf (b .journal)) c events) where
-    pub state-allowed : Allowed (romsIn b) (c .state)
-    state-allowed = subst (λ (w : World). Allowed (romsIn b) w) (sym (k .holds .state)) (later-allowed b p (net events))
+  module _ (c : Config (forward (romsAt b))) (events : List Event) (k : KeptIn (slotsOf (b .buffers .beside .journal)) c events) where
+    pub state-allowed : Allowed (romsAt b) (c .state)
+    state-allowed = subst (λ (w : World). Allowed (romsAt b) w) (sym (k .holds .state)) (later-allowed b p (net events))
 
     read : machineOf (bytesOf (machineAfter (c .state) (c .ring))) ≡ machineAfter (c .state) (c .ring)
-    read = end-read (c .state) (c .ring) (slotsOf (b .journal)) (few-slots (b .journal) (p .journal-fits)) (state-allowed .good) (k .holds .sound)
+    read = end-read (c .state) (c .ring) (slotsOf (b .buffers .beside .journal)) (few-slots (b .buffers .beside .journal) (p .journal-fits)) (state-allowed .good) (k .holds .sound)
 
-    pub carry : Carried (record {
-      image = bytesOf (machineAfter (c .state) (c .ring));
-      ram = c .state .ram;
-      paper = c .state .paper;
-      journal = c .ring .bytes;
-      events = events;
-    })
-    carry =
+    pub carry : (beside : Beside) → romsIn beside ≡ romsAt b → Carried (record { buffers = buffersAfter beside (c .state) (c .ring); events = events })
+    carry beside same =
         record {
           kept =
-              subst (λ (m : Machine). KeptIn (slotsOf (b .journal)) (configOf (romsIn b) m (c .state .ram) (c .state .paper) (c .ring .bytes)) events) (sym read) k;
+              subst (λ (m : Machine). KeptIn (slotsOf (b .buffers .beside .journal)) (configOf (romsAt b) m (besideAfter beside (c .state) (c .ring))) events)
+              (sym read) k;
+          roms-same = same;
           image-is = ap bytesOf (sym read);
         }
 
   -- ---- a call that reports no steps
 
-  module _ (n : ℕ) (c : Config (forward (romsIn b))) (events : List Event) (k : KeptIn n c events) where
+  module _ (n : ℕ) (c : Config (forward (romsAt b))) (events : List Event) (k : KeptIn n c events) where
     abbrev HoldsAt : ℕ → Type 0
-    HoldsAt m = Holds (both (romsIn b)) (worldAt (resetTo b)) (length (b .journal)) n m c
+    HoldsAt m = Holds (both (romsAt b)) (worldAt (resetTo b)) (length (b .buffers .beside .journal)) n m c
 
     none-ran : KeptIn n c (ran 0 ∷ events)
     none-ran =
@@ -98,40 +98,51 @@ module _ (b : Boot) (p : Booted b) where
           enough = omega (arith, k .enough);
         }
 
-  module _ (h : Host) (c : Carried h) (image ram paper : List ℕ) (steps : ℕ) where
-    pub same-ran : (journal : List ℕ) → image ≡ h .image → ram ≡ h .ram → paper ≡ h .paper → journal ≡ h .journal → steps ≡ 0 →
-        Carried (record { image = image; ram = ram; paper = paper; journal = journal; events = ran steps ∷ h .events })
-    same-ran journal e₁ e₂ e₃ e₄ e₅ =
-        rw (e₁, e₂, e₃, e₄, e₅) (record { kept = none-ran (slotsOf (b .journal)) (configAt b h) (h .events) (c .kept); image-is = c .image-is })
+  module _ (h : Host) (c : Carried h) (buffers : Buffers) (steps : ℕ) (e : buffers ≡ h .buffers) (none : steps ≡ 0) where
+    pub same-ran : Carried (record { buffers = buffers; events = ran steps ∷ h .events })
+    same-ran =
+        rw (e, none)
+        (record {
+          kept = none-ran (slotsOf (b .buffers .beside .journal)) (configAt b h) (h .events) (c .kept);
+          roms-same = c .roms-same;
+          image-is = c .image-is;
+        })
 
-    pub same-took : image ≡ h .image → ram ≡ h .ram → paper ≡ h .paper → steps ≡ 0 →
-        Carried (record { image = image; ram = ram; paper = paper; journal = h .journal; events = took steps ∷ h .events })
-    same-took e₁ e₂ e₃ e₄ =
-        rw (e₁, e₂, e₃, e₄) (record { kept = none-took (slotsOf (b .journal)) (configAt b h) (h .events) (c .kept); image-is = c .image-is })
+    pub same-took : Carried (record { buffers = buffers; events = took steps ∷ h .events })
+    same-took =
+        rw (e, none)
+        (record {
+          kept = none-took (slotsOf (b .buffers .beside .journal)) (configAt b h) (h .events) (c .kept);
+          roms-same = c .roms-same;
+          image-is = c .image-is;
+        })
 
-  -- ---- rows 1, 3, 4 and 5 are passed
+  -- ---- rows 1 to 5 are passed
 
   pub record Accepted (h : Host) : Type 0 where
-    pub slots-same : slotsOf (h .journal) ≡ slotsOf (b .journal)
-    pub ram-fits : ramFits (length (h .ram)) ≡ true
-    pub paper-fits : paperFits (length (h .paper)) ≡ true
-    pub journal-fits : journalFits (length (h .journal)) ≡ true
-    pub image-good : goodImage (h .image) (length (h .paper)) (length (h .journal)) ≡ true
+    pub slots-same : slotsOf (h .buffers .beside .journal) ≡ slotsOf (b .buffers .beside .journal)
+    pub ram-fits : ramFits (length (h .buffers .beside .ram)) ≡ true
+    pub roms-fit : romsFit (length (h .buffers .beside .execution)) (length (h .buffers .beside .bootstrap)) ≡ true
+    pub paper-fits : paperFits (length (h .buffers .beside .paper)) ≡ true
+    pub journal-fits : journalFits (length (h .buffers .beside .journal)) ≡ true
+    pub image-good : goodImage (h .buffers .image) (length (h .buffers .beside .paper)) (length (h .buffers .beside .journal)) ≡ true
 
   pub accepted : (h : Host) → Carried h → Accepted h
   accepted h c =
       let k = c .kept in
+      let lent = h .buffers .beside in
       let long = later-long b p (net (h .events)) in
       let ram = ap (λ (w : World). length (w .ram)) (k .holds .state) ∙ long .0 in
       let paper = ap (λ (w : World). length (w .paper)) (k .holds .state) ∙ long .1 in
-      let slots : slotsOf (h .journal) ≡ slotsOf (b .journal) = ap (λ (l : ℕ). l / 256) (k .holds .long) in
+      let slots : slotsOf (lent .journal) ≡ slotsOf (b .buffers .beside .journal) = ap (λ (l : ℕ). l / 256) (k .holds .long) in
       record {
         slots-same = slots;
         ram-fits = ap (λ (l : ℕ). ramFits l) ram ∙ p .ram-fits;
+        roms-fit = ap (λ (x : Roms). romsFit (length (x .execution)) (length (x .bootstrap))) (c .roms-same) ∙ p .roms-fit;
         paper-fits = ap (λ (l : ℕ). paperFits l) paper ∙ p .paper-fits;
         journal-fits = ap (λ (l : ℕ). journalFits l) (k .holds .long) ∙ p .journal-fits;
         image-good =
-            ap (λ (l : List ℕ). goodImage l (length (h .paper)) (length (h .journal))) (c .image-is)
-            ∙ end-good (worldAt h) (ringOf (machineOf (h .image) .journal) (h .journal)) (slotsOf (b .journal))
-            (few-slots (b .journal) (p .journal-fits)) (state-allowed (configAt b h) (h .events) k .good) (k .holds .sound) (sym slots);
+            ap (λ (l : List ℕ). goodImage l (length (lent .paper)) (length (lent .journal))) (c .image-is)
+            ∙ end-good (worldAt h) (ringOf (machineOf (h .buffers .image) .journal) (lent .journal)) (slotsOf (b .buffers .beside .journal))
+            (few-slots (b .buffers .beside .journal) (p .journal-fits)) (state-allowed (configAt b h) (h .events) k .good) (k .holds .sound) (sym slots);
       }

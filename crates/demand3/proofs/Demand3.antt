@@ -17,127 +17,138 @@ use Rattle.ring.proofs.Back as ring-back
 use Rattle.ring.proofs.History.{kept-called, fits-all}
 use Rattle.journal.specs.Journal.{slotsOf}
 use Rattle.state.specs.Layout.{bytesOf, machineOf}
-use Rattle.step.specs.World.{World}
+use Rattle.step.specs.World.{World, Roms}
+use Rattle.turn.specs.Buffers.{withRoms}
 use Rattle.good.specs.Good.{machineIn}
 use Rattle.run.specs.Run.{forward}
 use Rattle.back.specs.Back.{both}
 use Rattle.back.proofs.Roms.{undone-roms, fit-roms}
 use Rattle.answer.specs.Answer.{numberOf}
-use Rattle.forward.specs.Run.{Left, doneRun}
-use Rattle.backward.specs.Back.{LeftBack, doneBack}
-use Rattle.demand3.specs.Demand3.{Call, run, back, Host, runNext, backNext, ranTo, tookTo, called, calledAll, Boot, Booted, romsIn, resetTo, worldAt, TakesBack}
+use Rattle.accepted.specs.Left.{Left}
+use Rattle.forward.specs.Run.{doneRun}
+use Rattle.backward.specs.Back.{doneBack}
+use Rattle.demand3.specs.Demand3.{Call, run, back, Host, withoutRoms, runNext, backNext, ranTo, backIn, tookTo, called, calledAll, Boot, Booted, romsAt, resetTo, worldAt, TakesBack}
 use Rattle.forward.proofs.Theorems as forth
 use Rattle.backward.proofs.Theorems as backs
 use Rattle.demand3.proofs.Boot.{boot-allowed, boot-laws}
 use Rattle.demand3.proofs.Carried.{configAt, KeptIn, Carried, carried-start, carry, same-ran, same-took, accepted}
 
 module _ (b : Boot) (p : Booted b) (h : Host) (c : Carried b p h) where
-  abbrev n : ℕ
-  n = slotsOf (h .journal)
+  abbrev journal : List ℕ
+  journal = h .buffers .beside .journal
 
-  abbrev here : Config (forward (romsIn b))
+  abbrev n : ℕ
+  n = slotsOf journal
+
+  abbrev here : Config (forward (romsAt b))
   here = configAt b h
 
   -- over the slots of the journal as it is lent now, which are as many as at the start
   kept-now : KeptIn b p n here (h .events)
   kept-now = subst (λ (k : ℕ). KeptIn b p k here (h .events)) (sym (accepted b p h c .slots-same)) (c .kept)
 
-  kept-then : (d : Config (forward (romsIn b))) (events : List Event) → KeptIn b p n d events → KeptIn b p (slotsOf (b .journal)) d events
+  kept-then : (d : Config (forward (romsAt b))) (events : List Event) → KeptIn b p n d events → KeptIn b p (slotsOf (b .buffers .beside .journal)) d events
   kept-then d events k = subst (λ (j : ℕ). KeptIn b p j d events) (accepted b p h c .slots-same) k
 
   -- ---- run
 
-  pub run-number : (budget stop : ℕ) → numberOf (runNext (romsIn b) h budget stop .answer) ≡ cond (leb budget 1000000) 0 6
+  pub run-number : (budget stop : ℕ) → numberOf (runNext h budget stop .answer) ≡ cond (leb budget 1000000) 0 6
   run-number budget stop = go (leb budget 1000000) refl
     where
-      go : (t : Bool) → leb budget 1000000 ≡ t → numberOf (runNext (romsIn b) h budget stop .answer) ≡ cond t 0 6
+      go : (t : Bool) → leb budget 1000000 ≡ t → numberOf (runNext h budget stop .answer) ≡ cond t 0 6
       go true e =
           let a = accepted b p h c in
-          forth.number-0 (h .image) (b .execution) (b .bootstrap) (h .ram) (h .paper) (h .journal) budget stop .1
-          (a .ram-fits, (p .roms-fit, (a .paper-fits, (a .journal-fits, (a .image-good, e)))))
+          forth.number-0 (h .buffers) budget stop .1
+          (a .ram-fits, (a .roms-fit, (a .paper-fits, (a .journal-fits, (a .image-good, e)))))
       go false e =
           let a = accepted b p h c in
-          forth.number-6 (h .image) (b .execution) (b .bootstrap) (h .ram) (h .paper) (h .journal) budget stop .1
-          (a .ram-fits, (p .roms-fit, (a .paper-fits, (a .journal-fits, (a .image-good, e)))))
+          forth.number-6 (h .buffers) budget stop .1
+          (a .ram-fits, (a .roms-fit, (a .paper-fits, (a .journal-fits, (a .image-good, e)))))
 
   module _ (budget stop : ℕ) where
-    abbrev r : Ran (forward (romsIn b))
-    r = ring.run (forward (romsIn b)) n budget (not (eqb stop 0)) here
+    abbrev r : Ran (forward (romsAt b))
+    r = ring.run (forward (romsAt b)) n budget (not (eqb stop 0)) here
 
     kept-run : KeptIn b p n (r .config) (ran (r .taken) ∷ h .events)
     unfolding ring-calls.called
     kept-run =
-        kept-called (both (romsIn b)) (worldAt (resetTo b)) _ (boot-laws b p) (boot-allowed b p) n (ring-calls.run budget (not (eqb stop 0)))
+        kept-called (both (romsAt b)) (worldAt (resetTo b)) _ (boot-laws b p) (boot-allowed b p) n (ring-calls.run budget (not (eqb stop 0)))
         (record { config = here; events = h .events }) kept-now
 
-    carried-done : Carried b p (ranTo h (doneRun (h .image) (b .execution) (b .bootstrap) (h .ram) (h .paper) (h .journal) budget stop))
-    unfolding doneRun
-    carried-done = carry b p (r .config) (ran (r .taken) ∷ h .events) (kept-then (r .config) (ran (r .taken) ∷ h .events) kept-run)
+    -- the host, if it had these ROMs
+    abbrev hostWith : Roms → Host
+    hostWith roms = record { buffers = record { image = h .buffers .image; beside = withRoms roms (h .buffers .beside) }; events = h .events }
 
-    pub carried-run : Carried b p (ranTo h (runNext (romsIn b) h budget stop))
+    carried-done : Carried b p (ranTo h (doneRun (h .buffers) budget stop))
+    unfolding doneRun
+    carried-done =
+        subst (λ (roms : Roms). Carried b p (ranTo (hostWith roms) (doneRun (hostWith roms .buffers) budget stop))) (sym (c .roms-same))
+        (carry b p (r .config) (ran (r .taken) ∷ h .events) (kept-then (r .config) (ran (r .taken) ∷ h .events) kept-run) (hostWith (romsAt b) .buffers .beside) refl)
+
+    pub carried-run : Carried b p (ranTo h (runNext h budget stop))
     carried-run = go (leb budget 1000000) (run-number budget stop)
       where
-        go : (t : Bool) → numberOf (runNext (romsIn b) h budget stop .answer) ≡ cond t 0 6 → Carried b p (ranTo h (runNext (romsIn b) h budget stop))
+        go : (t : Bool) → numberOf (runNext h budget stop .answer) ≡ cond t 0 6 → Carried b p (ranTo h (runNext h budget stop))
         go true e =
-            subst (λ (l : Left). Carried b p (ranTo h l))
-            (sym (forth.done-is (h .image) (b .execution) (b .bootstrap) (h .ram) (h .paper) (h .journal) budget stop e)) carried-done
+            subst (λ (l : Left). Carried b p (ranTo h l)) (sym (forth.done-is (h .buffers) budget stop e)) carried-done
         go false e =
-            let u = forth.refused-same (h .image) (b .execution) (b .bootstrap) (h .ram) (h .paper) (h .journal) budget stop (λ z. absurd (omega (arith, e, z))) in
-            same-ran b p h c _ _ _ _ _ (u .image-same) (u .ram-same) (u .paper-same) (u .journal-same) (u .no-steps)
+            let u = forth.refused-same (h .buffers) budget stop (λ z. absurd (omega (arith, e, z))) in
+            same-ran b p h c _ _ (u .same) (u .no-steps)
 
   -- ---- take-back
 
   abbrev hand : ℕ
-  hand = machineOf (h .image) .journal .«on_hand»
+  hand = machineOf (h .buffers .image) .journal .«on_hand»
 
   abbrev next : ℕ
-  next = machineOf (h .image) .journal .«next_slot»
+  next = machineOf (h .buffers .image) .journal .«next_slot»
 
   module _ (k : ℕ) where
     module _ (near : k ≤ hand) where
-      fits-now : allFit (both (romsIn b)) n (h .journal) next k (worldAt h) ≡ true
-      fits-now = fits-all (both (romsIn b)) (worldAt (resetTo b)) _ (boot-laws b p) (boot-allowed b p) n (net (h .events)) here (kept-now .holds) k near
+      fits-now : allFit (both (romsAt b)) n journal next k (worldAt h) ≡ true
+      fits-now = fits-all (both (romsAt b)) (worldAt (resetTo b)) _ (boot-laws b p) (boot-allowed b p) n (net (h .events)) here (kept-now .holds) k near
 
       pub done-number : numberOf (backNext h k .answer) ≡ 0
       done-number =
           let a = accepted b p h c in
-          backs.number-0 (h .image) (h .ram) (h .paper) (h .journal) k .1
-          (a .ram-fits, (a .paper-fits, (a .journal-fits, (a .image-good, (le-leb k hand near, sym (fit-roms (romsIn b) n (h .journal) next k (worldAt h)) ∙ fits-now)))))
+          backs.number-0 (withoutRoms (h .buffers)) k .1
+          (a .ram-fits, (a .paper-fits, (a .journal-fits, (a .image-good, (le-leb k hand near, sym (fit-roms (romsAt b) n journal next k (worldAt h)) ∙ fits-now)))))
 
       abbrev older : World
-      older = undone (both (romsIn b)) n (h .journal) next k (worldAt h)
+      older = undone (both (romsAt b)) n journal next k (worldAt h)
 
-      abbrev lower : Config (forward (romsIn b))
+      abbrev lower : Config (forward (romsAt b))
       lower = record { state = older; ring = lowered n k (here .ring) }
 
       kept-back : KeptIn b p n lower (took k ∷ h .events)
       unfolding ring-calls.called
       kept-back =
-          rw (ring-back.back-done (both (romsIn b)) n here k near fits-now) at
-          (kept-called (both (romsIn b)) (worldAt (resetTo b)) _ (boot-laws b p) (boot-allowed b p) n (ring-calls.back k)
+          rw (ring-back.back-done (both (romsAt b)) n here k near fits-now) at
+          (kept-called (both (romsAt b)) (worldAt (resetTo b)) _ (boot-laws b p) (boot-allowed b p) n (ring-calls.back k)
           (record { config = here; events = h .events }) kept-now)
 
       -- no ROM had a part in it
-      carried-older : Carried b p (tookTo h (backs.doneLeaves (h .image) (h .ram) (h .paper) (h .journal) k))
+      carried-older : Carried b p (tookTo h (backs.doneLeaves (withoutRoms (h .buffers)) k))
       carried-older =
-          subst (λ (w : World). Carried b p (tookTo h (doneBack k w (lowered n k (here .ring))))) (undone-roms (romsIn b) n (h .journal) next k (worldAt h))
-          (carry b p lower (took k ∷ h .events) (kept-then lower (took k ∷ h .events) kept-back))
+          subst (λ (w : World). Carried b p (tookTo h (doneBack k (withoutRoms (h .buffers) .beside) w (lowered n k (here .ring)))))
+          (undone-roms (romsAt b) n journal next k (worldAt h))
+          (carry b p lower (took k ∷ h .events) (kept-then lower (took k ∷ h .events) kept-back) (h .buffers .beside) (c .roms-same))
 
       near-carried : Carried b p (tookTo h (backNext h k))
       near-carried =
-          subst (λ (l : LeftBack). Carried b p (tookTo h l)) (sym (backs.done-is (h .image) (h .ram) (h .paper) (h .journal) k done-number)) carried-older
+          subst (λ (l : Left). Carried b p (tookTo h l)) (sym (backs.done-is (withoutRoms (h .buffers)) k done-number)) carried-older
 
     module _ (far : hand < k) where
       pub far-number : numberOf (backNext h k .answer) ≡ 7
       far-number =
           let a = accepted b p h c in
-          backs.number-7 (h .image) (h .ram) (h .paper) (h .journal) k .1
+          backs.number-7 (withoutRoms (h .buffers)) k .1
           (a .ram-fits, (a .paper-fits, (a .journal-fits, (a .image-good, lt-leb k hand far))))
 
       far-carried : Carried b p (tookTo h (backNext h k))
       far-carried =
-          let u = backs.refused-same (h .image) (h .ram) (h .paper) (h .journal) k (λ z. absurd (omega (arith, far-number, z))) in
-          same-took b p h c _ _ _ _ (u .image-same) (u .ram-same) (u .paper-same) (u .no-steps)
+          let u = backs.refused-same (withoutRoms (h .buffers)) k (λ z. absurd (omega (arith, far-number, z))) in
+          same-took b p h c _ _ (ap (backIn h) (u .same)) (u .no-steps)
 
     pub carried-back : Carried b p (tookTo h (backNext h k))
     carried-back = by-leb k hand near-carried far-carried
@@ -150,7 +161,8 @@ module _ (b : Boot) (p : Booted b) (h : Host) (c : Carried b p h) where
       let same = k .hand in
       record {
         world = k .holds .state;
-        image-is = c .image-is ∙ ap (λ (w : World). bytesOf (machineIn w (machineOf (h .image) .journal))) (k .holds .state);
+        image-is = c .image-is ∙ ap (λ (w : World). bytesOf (machineIn w (machineOf (h .buffers .image) .journal))) (k .holds .state);
+        roms-same = c .roms-same;
         enough = k .enough;
         hand = same;
         too-far = λ j. (
@@ -161,7 +173,7 @@ module _ (b : Boot) (p : Booted b) (h : Host) (c : Carried b p h) where
           λ e. by-leb j hand (λ l. subst (λ (x : ℕ). j ≤ x) same l) (λ l. absurd (omega (arith, e, far-number j l))),
           λ l. done-number j (subst (λ (x : ℕ). j ≤ x) (sym same) l),
         );
-        back-steps = λ j l. backs.done-steps (h .image) (h .ram) (h .paper) (h .journal) j (done-number j (subst (λ (x : ℕ). j ≤ x) (sym same) l)) .0;
+        back-steps = λ j l. backs.done-steps (withoutRoms (h .buffers)) j (done-number j (subst (λ (x : ℕ). j ≤ x) (sym same) l)) .0;
         back-never-5 = λ j e. by-leb j hand (λ l. omega (arith, e, done-number j l)) (λ l. omega (arith, e, far-number j l));
         back-never-8 = λ j e. by-leb j hand (λ l. omega (arith, e, done-number j l)) (λ l. omega (arith, e, far-number j l));
         run-number = run-number;
@@ -170,19 +182,19 @@ module _ (b : Boot) (p : Booted b) (h : Host) (c : Carried b p h) where
 -- ---- any calls
 
 module _ (b : Boot) (p : Booted b) where
-  carried-called : (call : Call) (h : Host) → Carried b p h → Carried b p (called (romsIn b) call h)
+  carried-called : (call : Call) (h : Host) → Carried b p h → Carried b p (called call h)
   unfolding called
   carried-called (run budget stop) h c = carried-run b p h c budget stop
   carried-called (back k) h c = carried-back b p h c k
 
   -- what every call keeps, after any calls
-  pub carried-all : (calls : List Call) (h : Host) → Carried b p h → Carried b p (calledAll (romsIn b) calls h)
+  pub carried-all : (calls : List Call) (h : Host) → Carried b p h → Carried b p (calledAll calls h)
   unfolding calledAll
   carried-all [] h c = c
-  carried-all (call ∷ later) h c = carried-all later (called (romsIn b) call h) (carried-called call h c)
+  carried-all (call ∷ later) h c = carried-all later (called call h) (carried-called call h c)
 
   -- THE THEOREM
-  pub takes-back : (calls : List Call) → TakesBack b (calledAll (romsIn b) calls (resetTo b))
+  pub takes-back : (calls : List Call) → TakesBack b (calledAll calls (resetTo b))
   takes-back calls =
-      let h = calledAll (romsIn b) calls (resetTo b) in
+      let h = calledAll calls (resetTo b) in
       carried-gives b p h (carried-all calls (resetTo b) (carried-start b p))

@@ -12,14 +12,18 @@ use Rattle.ring.specs.Machine.{iterate}
 use Rattle.ring.specs.Calls.{Event, ran, took, stepsRun, stepsTaken, net, held}
 use Rattle.journal.specs.Journal.{slotsOf}
 use Rattle.state.specs.Layout.{bytesOf, machineOf}
-use Rattle.step.specs.World.{World, Roms, romsOf, worldIn}
+use Rattle.step.specs.World.{World, Roms}
+use Rattle.turn.specs.Buffers.{Buffers, romsIn, withRoms}
 use Rattle.good.specs.Good.{machineIn}
 use Rattle.run.specs.Run.{forward}
+use Rattle.back.specs.Back.{noRoms}
 use Rattle.answer.specs.Answer.{numberOf, stepsOf}
 use Rattle.answer.specs.Lent.{ramFits, romsFit, paperFits, journalFits}
 use Rattle.reset.specs.Reset.{resetAnswer, resetImage}
-use Rattle.forward.specs.Run.{Left, runLeaves}
-use Rattle.backward.specs.Back.{LeftBack, backLeaves}
+use Rattle.accepted.specs.After.{worldFrom}
+use Rattle.accepted.specs.Left.{Left}
+use Rattle.forward.specs.Run.{runLeaves}
+use Rattle.backward.specs.Back.{backLeaves}
 
 -- ---- the calls
 
@@ -28,89 +32,71 @@ pub data Call : Type 0 where
   run : ℕ → ℕ → Call
   back : ℕ → Call
 
--- What the host lends from call to call, as the calls leave it, with what their answers reported: the steps of each, the last call first. The ROMs are beside it,
--- since no call writes them.
+-- What the host lends from call to call, as the calls leave it, with what their answers reported: the steps of each, the last call first.
 pub record Host : Type 0 where
-  pub image : List ℕ
-  pub ram : List ℕ
-  pub paper : List ℕ
-  pub journal : List ℕ
+  pub buffers : Buffers
   pub events : List Event
 
-abbrev pub runNext : Roms → Host → ℕ → ℕ → Left
-runNext roms h budget stop = runLeaves (h .image) (roms .execution) (roms .bootstrap) (h .ram) (h .paper) (h .journal) budget stop
+-- run is lent "all six buffers"
+abbrev pub runNext : Host → ℕ → ℕ → Left
+runNext h budget stop = runLeaves (h .buffers) budget stop
 
-abbrev pub backNext : Host → ℕ → LeftBack
-backNext h k = backLeaves (h .image) (h .ram) (h .paper) (h .journal) k
+-- "take-back all but the ROMs"
+abbrev pub withoutRoms : Buffers → Buffers
+withoutRoms b = record { image = b .image; beside = withRoms noRoms (b .beside) }
+
+abbrev pub backNext : Host → ℕ → Left
+backNext h k = backLeaves (withoutRoms (h .buffers)) k
 
 abbrev pub ranTo : Host → Left → Host
-ranTo h left =
-    record {
-      image = left .image;
-      ram = left .ram;
-      paper = left .paper;
-      journal = left .journal;
-      events = ran (stepsOf (left .answer)) ∷ h .events;
-    }
+ranTo h left = record { buffers = left .buffers; events = ran (stepsOf (left .answer)) ∷ h .events }
 
--- take-back "leaves the journal's bytes"
-abbrev pub tookTo : Host → LeftBack → Host
-tookTo h left =
-    record {
-      image = left .image;
-      ram = left .ram;
-      paper = left .paper;
-      journal = h .journal;
-      events = took (stepsOf (left .answer)) ∷ h .events;
-    }
+-- what take-back leaves, with the host's ROMs, which it was not lent
+abbrev pub backIn : Host → Buffers → Buffers
+backIn h b = record { image = b .image; beside = withRoms (romsIn (h .buffers .beside)) (b .beside) }
+
+abbrev pub tookTo : Host → Left → Host
+tookTo h left = record { buffers = backIn h (left .buffers); events = took (stepsOf (left .answer)) ∷ h .events }
 
 -- Each call does what its own statement says. A refused one counts for none: it reports 0 steps.
-unfoldable pub called : Roms → Call → Host → Host
-called roms (run budget stop) h = ranTo h (runNext roms h budget stop)
-called roms (back k) h = tookTo h (backNext h k)
+unfoldable pub called : Call → Host → Host
+called (run budget stop) h = ranTo h (runNext h budget stop)
+called (back k) h = tookTo h (backNext h k)
 
 -- in order, the first at the head
-unfoldable pub calledAll : Roms → List Call → Host → Host
-calledAll roms [] h = h
-calledAll roms (c ∷ later) h = calledAll roms later (called roms c h)
+unfoldable pub calledAll : List Call → Host → Host
+calledAll [] h = h
+calledAll (c ∷ later) h = calledAll later (called c h)
 
 -- ---- the premises
 
 -- what the host lends, and reset's three parameters
 pub record Boot : Type 0 where
-  pub image : List ℕ
-  pub execution : List ℕ
-  pub bootstrap : List ℕ
-  pub ram : List ℕ
-  pub paper : List ℕ
-  pub journal : List ℕ
+  pub buffers : Buffers
   pub scale : ℕ
   pub delay : ℕ
   pub installed : ℕ
 
 -- lengths that rows 1 to 4 allow, bytes, and a reset that was done; the journal's own bytes do not matter
 pub record Booted (b : Boot) : Type 0 where
-  pub ram-fits : ramFits (length (b .ram)) ≡ true
-  pub roms-fit : romsFit (length (b .execution)) (length (b .bootstrap)) ≡ true
-  pub paper-fits : paperFits (length (b .paper)) ≡ true
-  pub journal-fits : journalFits (length (b .journal)) ≡ true
-  pub execution-bytes : Below 256 (b .execution)
-  pub bootstrap-bytes : Below 256 (b .bootstrap)
-  pub ram-bytes : Below 256 (b .ram)
-  pub paper-bytes : Below 256 (b .paper)
-  pub reset-done : numberOf (resetAnswer (b .image) (b .scale) (b .delay) (b .installed)) ≡ 0
+  pub ram-fits : ramFits (length (b .buffers .beside .ram)) ≡ true
+  pub roms-fit : romsFit (length (b .buffers .beside .execution)) (length (b .buffers .beside .bootstrap)) ≡ true
+  pub paper-fits : paperFits (length (b .buffers .beside .paper)) ≡ true
+  pub journal-fits : journalFits (length (b .buffers .beside .journal)) ≡ true
+  pub execution-bytes : Below 256 (b .buffers .beside .execution)
+  pub bootstrap-bytes : Below 256 (b .buffers .beside .bootstrap)
+  pub ram-bytes : Below 256 (b .buffers .beside .ram)
+  pub paper-bytes : Below 256 (b .buffers .beside .paper)
+  pub reset-done : numberOf (resetAnswer (b .buffers .image) (b .scale) (b .delay) (b .installed)) ≡ 0
 
-abbrev pub romsIn : Boot → Roms
-romsIn b = romsOf (b .execution) (b .bootstrap)
+abbrev pub romsAt : Boot → Roms
+romsAt b = romsIn (b .buffers .beside)
 
--- "RAM, paper and journal are left"
+-- reset is given the image alone: "RAM, paper and journal are left"
 abbrev pub resetTo : Boot → Host
 resetTo b =
     record {
-      image = resetImage (b .image) (b .scale) (b .delay) (b .installed);
-      ram = b .ram;
-      paper = b .paper;
-      journal = b .journal;
+      buffers = record { image = resetImage (b .buffers .image) (b .scale) (b .delay) (b .installed); beside = b .buffers .beside };
       events = [];
     }
 
@@ -118,25 +104,27 @@ resetTo b =
 
 -- the machine of the image but for its two journal words, RAM and paper
 abbrev pub worldAt : Host → World
-worldAt h = worldIn (machineOf (h .image)) (h .ram) (h .paper)
+worldAt h = worldFrom (h .buffers)
 
 -- the world that iterating the step leads to, from where the reset left it: as many times as the answers say that steps were run less those taken back
 abbrev pub worldDue : Boot → Host → World
-worldDue b h = iterate (forward (romsIn b)) (net (h .events)) (worldAt (resetTo b))
+worldDue b h = iterate (forward (romsAt b)) (net (h .events)) (worldAt (resetTo b))
 
 -- "Each step writes one 256-byte record at next slot; [..] on hand rises by one up to the number of slots. [..] Taking back k lowers on hand by k"
 abbrev pub handDue : Boot → Host → ℕ
-handDue b h = held (slotsOf (b .journal)) (h .events)
+handDue b h = held (slotsOf (b .buffers .beside .journal)) (h .events)
 
 -- of where calls led, and of any call that is made next
 pub record TakesBack (b : Boot) (h : Host) : Type 0 where
   -- image (its two journal words apart), RAM and paper equal those of iterating the step, steps run less steps taken back: "restores all else"
   pub world : worldAt h ≡ worldDue b h
   -- byte for byte, with the two journal words as the image has them
-  pub image-is : h .image ≡ bytesOf (machineIn (worldDue b h) (machineOf (h .image) .journal))
+  pub image-is : h .buffers .image ≡ bytesOf (machineIn (worldDue b h) (machineOf (h .buffers .image) .journal))
+  -- no call writes the ROMs
+  pub roms-same : romsIn (h .buffers .beside) ≡ romsAt b
   -- the difference is never cut off at 0: what is on hand and what was taken back was all run
   pub enough : handDue b h + stepsTaken (h .events) ≤ stepsRun (h .events)
-  pub hand : machineOf (h .image) .journal .«on_hand» ≡ handDue b h
+  pub hand : machineOf (h .buffers .image) .journal .«on_hand» ≡ handDue b h
   -- 7: "take-back asks for more steps than are on hand"
   pub too-far : (k : ℕ) → (numberOf (backNext h k .answer) ≡ 7) ↔ (handDue b h < k)
   -- otherwise it is done: "8 never arises under demand 3's premises. Every image that reset, run or take-back writes keeps the rules, so 5 does not either."
@@ -146,4 +134,4 @@ pub record TakesBack (b : Boot) (h : Host) : Type 0 where
   pub back-never-5 : (k : ℕ) → numberOf (backNext h k .answer) ≡ 5 → ⊥
   pub back-never-8 : (k : ℕ) → numberOf (backNext h k .answer) ≡ 8 → ⊥
   -- and run is refused for its budget alone, "over 1,000,000", and so never with 5
-  pub run-number : (budget stop : ℕ) → numberOf (runNext (romsIn b) h budget stop .answer) ≡ cond (leb budget 1000000) 0 6
+  pub run-number : (budget stop : ℕ) → numberOf (runNext h budget stop .answer) ≡ cond (leb budget 1000000) 0 6

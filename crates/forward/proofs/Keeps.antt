@@ -17,17 +17,19 @@ use Rattle.state.specs.Layout.{bytesOf, machineOf}
 use Rattle.rules.specs.Rules.{goodImage}
 use Rattle.rules.proofs.Good.{good-same}
 use Rattle.decide.specs.Lent.{Whole}
-use Rattle.step.specs.World.{World, Roms, romsOf, lentIn}
+use Rattle.step.specs.World.{World, Roms, lentIn}
 use Rattle.step.specs.Note.{noteOf}
 use Rattle.good.specs.Good.{Good}
 use Rattle.good.proofs.Lengths.{step-lengths, step-whole}
 use Rattle.good.proofs.Keeps.{step-keeps}
 use Rattle.restored.proofs.Notes.{note-long}
+use Rattle.turn.specs.Buffers.{Beside, Buffers, romsIn}
 use Rattle.run.specs.Run.{forward, configOf}
 use Rattle.answer.specs.declared.Reason.the-variants.{BudgetSpent}
 use Rattle.answer.specs.declared.Answer.the-variants.{Done}
 use Rattle.answer.specs.Lent.{ramFits, romsFit, paperFits, journalFits}
-use Rattle.forward.specs.Run.{Left, leftOf, ranOf, doneRun, runLeaves}
+use Rattle.accepted.specs.Left.{Left, leftOf}
+use Rattle.forward.specs.Run.{ranOf, doneRun, runLeaves}
 use Rattle.ring.proofs.Run as ring
 use Rattle.ring.proofs.Steps.{run-keeps}
 use Rattle.accepted.proofs.Start.{lent-whole, paper-short, few-slots, ring-sound, image-mark, start-good}
@@ -64,98 +66,106 @@ module _ (roms : Roms) (slots ram paper journal : ℕ) where
 
 -- ---- the call
 
-pub record RunKept (left : Left) (ram paper journal : List ℕ) : Type 0 where
-  pub image-good : goodImage (left .image) (length (left .paper)) (length (left .journal)) ≡ true
-  pub ram-long : length (left .ram) ≡ length ram
-  pub paper-long : length (left .paper) ≡ length paper
-  pub journal-long : length (left .journal) ≡ length journal
-  pub image-bytes : Below 256 (left .image)
-  pub ram-bytes : Below 256 (left .ram)
-  pub paper-bytes : Below 256 (left .paper)
+pub record RunKept (left : Left) (b : Buffers) : Type 0 where
+  pub image-good : goodImage (left .buffers .image) (length (left .buffers .beside .paper)) (length (left .buffers .beside .journal)) ≡ true
+  pub ram-long : length (left .buffers .beside .ram) ≡ length (b .beside .ram)
+  pub paper-long : length (left .buffers .beside .paper) ≡ length (b .beside .paper)
+  pub journal-long : length (left .buffers .beside .journal) ≡ length (b .beside .journal)
+  pub roms-same : romsIn (left .buffers .beside) ≡ romsIn (b .beside)
+  pub image-bytes : Below 256 (left .buffers .image)
+  pub ram-bytes : Below 256 (left .buffers .beside .ram)
+  pub paper-bytes : Below 256 (left .buffers .beside .paper)
 
-module _ (image execution bootstrap ram paper journal : List ℕ) (budget stop : ℕ) (number : runNumber image execution bootstrap ram paper journal budget stop ≡ 0) where
+module _ (b : Buffers) (budget stop : ℕ) (number : runNumber b budget stop ≡ 0) where
+  abbrev lent : Beside
+  lent = b .beside
+
   abbrev roms : Roms
-  roms = romsOf execution bootstrap
+  roms = romsIn lent
 
   -- what is lent is bytes
-  module _ (image-are : Below 256 image) (execution-are : Below 256 execution) (bootstrap-are : Below 256 bootstrap) (ram-are : Below 256 ram) (paper-are : Below 256 paper) where
+  module _ (image-are : Below 256 (b .image)) (execution-are : Below 256 (lent .execution)) (bootstrap-are : Below 256 (lent .bootstrap))
+      (ram-are : Below 256 (lent .ram)) (paper-are : Below 256 (lent .paper)) where
     abbrev FineHere : Config (forward roms) → Type 0
-    FineHere = Fine roms (slotsOf journal) (length ram) (length paper) (length journal)
+    FineHere = Fine roms (slotsOf (lent .journal)) (length (lent .ram)) (length (lent .paper)) (length (lent .journal))
 
-    start : FineHere (configOf roms (machineOf image) ram paper journal)
+    start : FineHere (configOf roms (machineOf (b .image)) lent)
     start =
-        let t = number-0 image execution bootstrap ram paper journal budget stop .0 number in
+        let t = number-0 b budget stop .0 number in
         let good = t .1 .1 .1 .1 .0 in
         record {
-          good = start-good image ram paper (length journal) good image-are ram-are paper-are;
-          whole = lent-whole execution bootstrap ram (t .0) (t .1 .0);
+          good = start-good (b .image) (lent .ram) (lent .paper) (length (lent .journal)) good image-are ram-are paper-are;
+          whole = lent-whole (lent .execution) (lent .bootstrap) (lent .ram) (t .0) (t .1 .0);
           ram-long = refl;
           paper-long = refl;
-          sound = ring-sound journal (machineOf image .journal) (image-mark image (length paper) (length journal) good);
+          sound =
+              ring-sound (lent .journal) (machineOf (b .image) .journal) (image-mark (b .image) (length (lent .paper)) (length (lent .journal)) good);
           journal-long = refl;
         }
 
-    fine : FineHere (ranOf image execution bootstrap ram paper journal budget stop .config)
+    fine : FineHere (ranOf b budget stop .config)
     fine =
-        let t = number-0 image execution bootstrap ram paper journal budget stop .0 number in
-        let short = paper-short (length paper) (t .1 .1 .0) in
-        run-keeps (forward roms) (slotsOf journal) FineHere
-        (fine-on roms (slotsOf journal) (length ram) (length paper) (length journal) execution-are bootstrap-are short) budget (not (eqb stop 0))
-        (configOf roms (machineOf image) ram paper journal) start
+        let t = number-0 b budget stop .0 number in
+        let short = paper-short (length (lent .paper)) (t .1 .1 .0) in
+        run-keeps (forward roms) (slotsOf (lent .journal)) FineHere
+        (fine-on roms (slotsOf (lent .journal)) (length (lent .ram)) (length (lent .paper)) (length (lent .journal)) execution-are bootstrap-are short) budget
+        (not (eqb stop 0)) (configOf roms (machineOf (b .image)) lent) start
 
-    few : slotsOf journal < 2 ^ 32
-    few = few-slots journal (number-0 image execution bootstrap ram paper journal budget stop .0 number .1 .1 .1 .0)
+    few : slotsOf (lent .journal) < 2 ^ 32
+    few = few-slots (lent .journal) (number-0 b budget stop .0 number .1 .1 .1 .0)
 
-    done-kept : RunKept (doneRun image execution bootstrap ram paper journal budget stop) ram paper journal
+    done-kept : RunKept (doneRun b budget stop) b
     unfolding doneRun
     done-kept =
-        let c = ranOf image execution bootstrap ram paper journal budget stop .config in
-        let same : slotsOf journal ≡ length (c .ring .bytes) / 256 = ap (λ (k : ℕ). k / 256) (sym (fine .journal-long)) in
+        let c = ranOf b budget stop .config in
+        let n = slotsOf (lent .journal) in
+        let same : n ≡ length (c .ring .bytes) / 256 = ap (λ (k : ℕ). k / 256) (sym (fine .journal-long)) in
         record {
-          image-good = end-good (c .state) (c .ring) (slotsOf journal) few (fine .good) (fine .sound) same;
+          image-good = end-good (c .state) (c .ring) n few (fine .good) (fine .sound) same;
           ram-long = fine .ram-long;
           paper-long = fine .paper-long;
           journal-long = fine .journal-long;
-          image-bytes = end-bytes (c .state) (c .ring) (slotsOf journal) few (fine .good) (fine .sound);
+          roms-same = refl;
+          image-bytes = end-bytes (c .state) (c .ring) n few (fine .good) (fine .sound);
           ram-bytes = fine .good .ram;
           paper-bytes = fine .good .paper;
         }
 
     -- THE THEOREM
-    pub run-kept : RunKept (runLeaves image execution bootstrap ram paper journal budget stop) ram paper journal
-    run-kept =
-        subst (λ (l : Left). RunKept l ram paper journal) (sym (done-is image execution bootstrap ram paper journal budget stop number)) done-kept
+    pub run-kept : RunKept (runLeaves b budget stop) b
+    run-kept = subst (λ (l : Left). RunKept l b) (sym (done-is b budget stop number)) done-kept
 
     -- so what a done run leaves can be run again, with any budget in its range
-    pub run-again : let left = runLeaves image execution bootstrap ram paper journal budget stop in
-        (more stop′ : ℕ) → leb more 1000000 ≡ true → runNumber (left .image) execution bootstrap (left .ram) (left .paper) (left .journal) more stop′ ≡ 0
+    pub run-again : (more stop′ : ℕ) → leb more 1000000 ≡ true → runNumber (runLeaves b budget stop .buffers) more stop′ ≡ 0
     run-again more stop′ e =
-        let left = runLeaves image execution bootstrap ram paper journal budget stop in
-        let t = number-0 image execution bootstrap ram paper journal budget stop .0 number in
-        let r : ramFits (length (left .ram)) ≡ true = ap (λ (n : ℕ). ramFits n) (run-kept .ram-long) ∙ t .0 in
-        let p : paperFits (length (left .paper)) ≡ true = ap (λ (n : ℕ). paperFits n) (run-kept .paper-long) ∙ t .1 .1 .0 in
-        let j : journalFits (length (left .journal)) ≡ true = ap (λ (n : ℕ). journalFits n) (run-kept .journal-long) ∙ t .1 .1 .1 .0 in
-        number-0 (left .image) execution bootstrap (left .ram) (left .paper) (left .journal) more stop′ .1
-        (r, (t .1 .0, (p, (j, (run-kept .image-good, e)))))
+        let t = number-0 b budget stop .0 number in
+        let k = run-kept in
+        let after = runLeaves b budget stop .buffers in
+        let r : ramFits (length (after .beside .ram)) ≡ true = ap (λ (n : ℕ). ramFits n) (k .ram-long) ∙ t .0 in
+        let o : romsFit (length (after .beside .execution)) (length (after .beside .bootstrap)) ≡ true =
+        ap (λ (x : Roms). romsFit (length (x .execution)) (length (x .bootstrap))) (k .roms-same) ∙ t .1 .0 in
+        let p : paperFits (length (after .beside .paper)) ≡ true = ap (λ (n : ℕ). paperFits n) (k .paper-long) ∙ t .1 .1 .0 in
+        let j : journalFits (length (after .beside .journal)) ≡ true = ap (λ (n : ℕ). journalFits n) (k .journal-long) ∙ t .1 .1 .1 .0 in
+        number-0 after more stop′ .1 (r, (o, (p, (j, (k .image-good, e)))))
 
 -- ---- "Budget 0 [..] [is] done and change[s] nothing", and "for budget 0 [the reason] is the budget"
 
-module _ (image execution bootstrap ram paper journal : List ℕ) (stop : ℕ) (ram-fits : ramFits (length ram) ≡ true)
-    (roms-fit : romsFit (length execution) (length bootstrap) ≡ true) (paper-fits : paperFits (length paper) ≡ true)
-    (journal-fits : journalFits (length journal) ≡ true) (good : goodImage image (length paper) (length journal) ≡ true) where
-  none-done : runNumber image execution bootstrap ram paper journal 0 stop ≡ 0
-  none-done =
-      number-0 image execution bootstrap ram paper journal 0 stop .1
-      (ram-fits, (roms-fit, (paper-fits, (journal-fits, (good, le-leb 0 1000000 (omega arith))))))
+module _ (b : Buffers) (stop : ℕ) (ram-fits : ramFits (length (b .beside .ram)) ≡ true)
+    (roms-fit : romsFit (length (b .beside .execution)) (length (b .beside .bootstrap)) ≡ true) (paper-fits : paperFits (length (b .beside .paper)) ≡ true)
+    (journal-fits : journalFits (length (b .beside .journal)) ≡ true)
+    (good : goodImage (b .image) (length (b .beside .paper)) (length (b .beside .journal)) ≡ true) where
+  none-done : runNumber b 0 stop ≡ 0
+  none-done = number-0 b 0 stop .1 (ram-fits, (roms-fit, (paper-fits, (journal-fits, (good, le-leb 0 1000000 (omega arith))))))
 
   -- a run that takes no step ends where it began
-  none-ran : doneRun image execution bootstrap ram paper journal 0 stop ≡ leftOf (Done 0 BudgetSpent) (bytesOf (machineOf image)) ram paper journal
+  none-ran : doneRun b 0 stop ≡ leftOf (Done 0 BudgetSpent) (record { image = bytesOf (machineOf (b .image)); beside = b .beside })
   unfolding doneRun
   none-ran =
-      let roms = romsOf execution bootstrap in
-      rw (ring.run-none (forward roms) (slotsOf journal) (not (eqb stop 0)) (configOf roms (machineOf image) ram paper journal))
+      let roms = romsIn (b .beside) in
+      rw (ring.run-none (forward roms) (slotsOf (b .beside .journal)) (not (eqb stop 0)) (configOf roms (machineOf (b .image)) (b .beside)))
 
-  pub run-none : Below 256 image → runLeaves image execution bootstrap ram paper journal 0 stop ≡ leftOf (Done 0 BudgetSpent) image ram paper journal
+  pub run-none : Below 256 (b .image) → runLeaves b 0 stop ≡ leftOf (Done 0 BudgetSpent) b
   run-none small =
-      done-is image execution bootstrap ram paper journal 0 stop none-done ∙ none-ran
-      ∙ ap (λ (b : List ℕ). leftOf (Done 0 BudgetSpent) b ram paper journal) (good-same image (length paper) (length journal) small good)
+      done-is b 0 stop none-done ∙ none-ran
+      ∙ ap (λ (image : List ℕ). leftOf (Done 0 BudgetSpent) (record { image = image; beside = b .beside }))
+      (good-same (b .image) (length (b .beside .paper)) (length (b .beside .journal)) small good)

@@ -10,12 +10,13 @@ use Rattle.word.proofs.Cond.{both}
 use Rattle.state.specs.Layout.{bytesOf, machineOf}
 use Rattle.state.specs.declared.machine.Machine.{Machine}
 use Rattle.rules.specs.Rules.{headerKeeps, journalKeeps, stateKeeps, machineKeeps, keepsRules}
+use Rattle.turn.specs.Buffers.{Buffers, besideOf, buffersOf}
 use Rattle.run.specs.Run.{Fits, RunIs, reasonOf}
 use Rattle.run.specs.declared.Outcome.{Outcome}
 use Rattle.answer.proofs.Passed.{allowed}
 use Rattle.accepted.proofs.Start.{lent-whole, ring-sound}
-use Rattle.answer.specs.Lent.{lentTest}
-use Rattle.forward.specs.Run.{imageTest, leftOf, reasonNamed, doneRun}
+use Rattle.accepted.specs.Left.{leftOf}
+use Rattle.forward.specs.Run.{besideTest, imageTest, reasonNamed, doneRun}
 use Rattle.answer.specs.declared.Reason.{Reason}
 use Rattle.answer.specs.declared.Refusal.the-variants.{Image, Range}
 use Rattle.answer.specs.declared.Answer.the-variants.{Done}
@@ -24,48 +25,51 @@ use Rattle.answer.specs.declared.lent.Test.the-variants.{Passed, Failed}
 -- ---- what is lent
 
 -- what the tests leave is what the run asks for
-pub fits-run : (execution bootstrap ram paper journal image : List ℕ) {m : Machine} →
-    lentTest (length execution) (length bootstrap) (length ram) (length paper) (length journal) ≡ Passed →
-    keepsRules image (length paper) (length journal) ≡ true → m ≡ machineOf image → Fits execution bootstrap ram paper journal m
+pub fits-run : (b : Buffers) {m : Machine} → besideTest (b .beside) ≡ Passed →
+    keepsRules (b .image) (length (b .beside .paper)) (length (b .beside .journal)) ≡ true → m ≡ machineOf (b .image) → Fits (b .beside) m
 unfolding keepsRules machineKeeps
-fits-run execution bootstrap ram paper journal image passed keeps is =
-    let a = allowed (length execution) (length bootstrap) (length ram) (length paper) (length journal) passed in
-    let p = both (leb (length paper) 65536) (eqb (length paper % 8) 0) (a .paper-fits) in
-    let f = both (leb (length journal) 16777216) (eqb (length journal % 256) 0) (a .journal-fits) in
-    let k = both (headerKeeps image) (machineKeeps (machineOf image) (length paper) (length journal)) keeps in
-    let j = both (stateKeeps (machineOf image) (length paper)) (journalKeeps (machineOf image .journal) (length journal / 256)) (k .1) in
+fits-run b passed keeps is =
+    let l = b .beside in
+    let m = machineOf (b .image) in
+    let paper = length (l .paper) in
+    let journal = length (l .journal) in
+    let a = allowed (length (l .execution)) (length (l .bootstrap)) (length (l .ram)) paper journal passed in
+    let p = both (leb paper 65536) (eqb (paper % 8) 0) (a .paper-fits) in
+    let f = both (leb journal 16777216) (eqb (journal % 256) 0) (a .journal-fits) in
+    let k = both (headerKeeps (b .image)) (machineKeeps m paper journal) keeps in
+    let j = both (stateKeeps m paper) (journalKeeps (m .journal) (journal / 256)) (k .1) in
     record {
-      whole = lent-whole execution bootstrap ram (a .ram-fits) (a .roms-fit);
-      short = leb-true (length paper) 65536 (p .0);
-      ready = rw is (record { few = leb-true (length journal) 16777216 (f .0); sound = ring-sound journal (machineOf image .journal) (j .1) });
+      whole = lent-whole (l .execution) (l .bootstrap) (l .ram) (a .ram-fits) (a .roms-fit);
+      short = leb-true paper 65536 (p .0);
+      ready = rw is (record { few = leb-true journal 16777216 (f .0); sound = ring-sound (l .journal) (m .journal) (j .1) });
     }
 
 -- ---- the image and the budget
 
-module _ (image : List ℕ) (paper journal budget : ℕ) where
-  pub bad-length : (length image ≡ 501 → ⊥) → imageTest image paper journal budget ≡ Failed Image
+module _ (b : Buffers) (budget : ℕ) where
+  pub bad-length : (length (b .image) ≡ 501 → ⊥) → imageTest b budget ≡ Failed Image
   unfolding imageTest
-  bad-length h = rw (ne-eqb (length image) 501 h)
+  bad-length h = rw (ne-eqb (length (b .image)) 501 h)
 
-  module _ (long : length image ≡ 501) where
-    pub bad-rules : keepsRules image paper journal ≡ false → imageTest image paper journal budget ≡ Failed Image
+  module _ (long : length (b .image) ≡ 501) where
+    pub bad-rules : keepsRules (b .image) (length (b .beside .paper)) (length (b .beside .journal)) ≡ false → imageTest b budget ≡ Failed Image
     unfolding imageTest
-    bad-rules e = rw (eq-eqb (length image) 501 long, e)
+    bad-rules e = rw (eq-eqb (length (b .image)) 501 long, e)
 
-    module _ (keeps : keepsRules image paper journal ≡ true) where
-      pub bad-budget : 1000000 < budget → imageTest image paper journal budget ≡ Failed Range
+    module _ (keeps : keepsRules (b .image) (length (b .beside .paper)) (length (b .beside .journal)) ≡ true) where
+      pub bad-budget : 1000000 < budget → imageTest b budget ≡ Failed Range
       unfolding imageTest
-      bad-budget l = rw (eq-eqb (length image) 501 long, keeps, lt-leb budget 1000000 l)
+      bad-budget l = rw (eq-eqb (length (b .image)) 501 long, keeps, lt-leb budget 1000000 l)
 
-      pub all-passed : budget ≤ 1000000 → imageTest image paper journal budget ≡ Passed
+      pub all-passed : budget ≤ 1000000 → imageTest b budget ≡ Passed
       unfolding imageTest
-      all-passed l = rw (eq-eqb (length image) 501 long, keeps, le-leb budget 1000000 l)
+      all-passed l = rw (eq-eqb (length (b .image)) 501 long, keeps, le-leb budget 1000000 l)
 
 -- ---- the run
 
-pub done-is : (image execution bootstrap ram paper journal : List ℕ) (budget stop : ℕ) {m : Machine} (o : Outcome) {reason : Reason} {image′ ram′ paper′ journal′ : List ℕ} →
-    m ≡ machineOf image → RunIs execution bootstrap budget (not (eqb stop 0)) m ram paper journal o ram′ paper′ journal′ →
-    image′ ≡ bytesOf (o .machine) → reason ≡ reasonNamed (reasonOf (o .why)) →
-    leftOf (Done (o .steps) reason) image′ ram′ paper′ journal′ ≡ doneRun image execution bootstrap ram paper journal budget stop
+pub done-is : (b : Buffers) (budget stop : ℕ) {m : Machine} (o : Outcome) {reason : Reason} {image ram paper journal : List ℕ} → m ≡ machineOf (b .image) →
+    RunIs budget (not (eqb stop 0)) m (b .beside) o (besideOf (b .beside .execution) (b .beside .bootstrap) ram paper journal) →
+    image ≡ bytesOf (o .machine) → reason ≡ reasonNamed (reasonOf (o .why)) →
+    leftOf (Done (o .steps) reason) (buffersOf image (b .beside .execution) (b .beside .bootstrap) ram paper journal) ≡ doneRun b budget stop
 unfolding doneRun
-done-is image execution bootstrap ram paper journal budget stop o is ran encoded told = rw (encoded, told, ← is, ← ran)
+done-is b budget stop o is ran encoded told = rw (encoded, told, ← is, ← ran)

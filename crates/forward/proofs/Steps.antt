@@ -2,7 +2,6 @@
 use Prim.Native.Nat.{ℕ, suc, _-_, _^_, _≤_, _<_}
 use mathlib.Core.Path.{_≡_, refl, sym, ap, subst}
 use mathlib.Core.Bool.{Bool, true, false, not, false≢true}
-use mathlib.Core.List.{List}
 use mathlib.Core.Logic.{_⊎_, inl, inr}
 use native.Mathlib.Decide.{ℕ-discrete}
 use native.Mathlib.Omega.{arith}
@@ -15,37 +14,39 @@ use Rattle.journal.specs.Journal.{slotsOf}
 use Rattle.state.specs.Layout.{bytesOf, machineOf}
 use Rattle.state.specs.declared.machine.Journal.{Journal}
 use Rattle.good.specs.Good.{machineIn}
-use Rattle.step.specs.World.{World, romsOf, worldIn}
+use Rattle.step.specs.World.{World}
 use Rattle.step.specs.Step.{raisesOf}
+use Rattle.turn.specs.Buffers.{Buffers, romsIn}
 use Rattle.run.specs.Run.{forward, configOf}
 use Rattle.answer.specs.declared.Answer.the-variants.{Done}
 use Rattle.answer.specs.Answer.{reasonNumber, reasonOf, stepsOf, packedOf}
-use Rattle.forward.specs.Run.{Left, leftOf, reasonNamed, ranOf, doneRun, runLeaves}
-use Rattle.accepted.specs.After.{machineAfter}
+use Rattle.accepted.specs.After.{worldFrom, buffersAfter}
+use Rattle.accepted.specs.Left.{Left, leftOf}
+use Rattle.forward.specs.Run.{reasonNamed, ranOf, doneRun, runLeaves}
 use Rattle.ring.proofs.Steps.{Steps, run-steps}
 use Rattle.forward.proofs.Theorems.{runNumber, number-0, no-other, refused-same, done-is}
 
 -- the world of an image with what is lent, k steps later: no journal, no budget and no stop
-abbrev pub worldLater : (image execution bootstrap ram paper : List ℕ) → ℕ → World
-worldLater image execution bootstrap ram paper k = iterate (forward (romsOf execution bootstrap)) k (worldIn (machineOf image) ram paper)
+abbrev pub worldLater : Buffers → ℕ → World
+worldLater b k = iterate (forward (romsIn (b .beside))) k (worldFrom b)
 
 -- does the step from there enter an exception
-abbrev pub raisesLater : (image execution bootstrap ram paper : List ℕ) → ℕ → Bool
-raisesLater image execution bootstrap ram paper k = raisesOf (romsOf execution bootstrap) (worldLater image execution bootstrap ram paper k)
+abbrev pub raisesLater : Buffers → ℕ → Bool
+raisesLater b k = raisesOf (romsIn (b .beside)) (worldLater b k)
 
 -- Of what a run leaves, with the steps that it answers. Image, RAM and paper are those of that many steps. A run that says that its budget is spent took all
 -- of it; one that says that an exception ended it was asked to stop there, and its last step entered one; and a step that enters one, if that is asked, is the last.
-pub record RunSays (image execution bootstrap ram paper : List ℕ) (budget stop : ℕ) (left : Left) : Type 0 where
+pub record RunSays (b : Buffers) (budget stop : ℕ) (left : Left) : Type 0 where
   pub few : stepsOf (left .answer) ≤ budget
   pub small : stepsOf (left .answer) < 2 ^ 32
-  pub image-is : (mark : Journal) × (left .image ≡ bytesOf (machineIn (worldLater image execution bootstrap ram paper (stepsOf (left .answer))) mark))
-  pub ram-is : left .ram ≡ worldLater image execution bootstrap ram paper (stepsOf (left .answer)) .ram
-  pub paper-is : left .paper ≡ worldLater image execution bootstrap ram paper (stepsOf (left .answer)) .paper
+  pub image-is : (mark : Journal) × (left .buffers .image ≡ bytesOf (machineIn (worldLater b (stepsOf (left .answer))) mark))
+  pub ram-is : left .buffers .beside .ram ≡ worldLater b (stepsOf (left .answer)) .ram
+  pub paper-is : left .buffers .beside .paper ≡ worldLater b (stepsOf (left .answer)) .paper
   pub why : (reasonOf (left .answer) ≡ 1) ⊎ (reasonOf (left .answer) ≡ 2)
   pub all : reasonOf (left .answer) ≡ 1 → stepsOf (left .answer) ≡ budget
   pub last : reasonOf (left .answer) ≡ 2 →
-      (stop ≡ 0 → ⊥) × ((0 < stepsOf (left .answer)) × (raisesLater image execution bootstrap ram paper (stepsOf (left .answer) - 1) ≡ true))
-  pub first : (stop ≡ 0 → ⊥) → (i : ℕ) → i < stepsOf (left .answer) → raisesLater image execution bootstrap ram paper i ≡ true →
+      (stop ≡ 0 → ⊥) × ((0 < stepsOf (left .answer)) × (raisesLater b (stepsOf (left .answer) - 1) ≡ true))
+  pub first : (stop ≡ 0 → ⊥) → (i : ℕ) → i < stepsOf (left .answer) → raisesLater b i ≡ true →
       (suc i ≡ stepsOf (left .answer)) × (reasonOf (left .answer) ≡ 2)
 
 -- the two reasons of a run have the numbers that document 01 gives them, and no other
@@ -70,13 +71,11 @@ asked : (t : Bool) → not t ≡ true → t ≡ false
 asked true e = absurd (false≢true e)
 asked false e = refl
 
-module _ (image execution bootstrap ram paper journal : List ℕ) (budget stop : ℕ) where
+module _ (b : Buffers) (budget stop : ℕ) where
   -- of any run that keeps the laws of a run
-  says-of : (r : Ran (forward (romsOf execution bootstrap))) → budget ≤ 1000000 →
-      Steps (forward (romsOf execution bootstrap)) budget (not (eqb stop 0)) (worldIn (machineOf image) ram paper) r →
-      RunSays image execution bootstrap ram paper budget stop
-      (leftOf (Done (r .taken) (reasonNamed (r .reason))) (bytesOf (machineAfter (r .config .state) (r .config .ring)))
-      (r .config .state .ram) (r .config .state .paper) (r .config .ring .bytes))
+  says-of : (r : Ran (forward (romsIn (b .beside)))) → budget ≤ 1000000 →
+      Steps (forward (romsIn (b .beside))) budget (not (eqb stop 0)) (worldFrom b) r →
+      RunSays b budget stop (leftOf (Done (r .taken) (reasonNamed (r .reason))) (buffersAfter (b .beside) (r .config .state) (r .config .ring)))
   says-of r most s =
       let g = r .config .ring in
       let mark : Journal = record { «on_hand» = g .hand; «next_slot» = g .next } in
@@ -95,33 +94,31 @@ module _ (image execution bootstrap ram paper journal : List ℕ) (budget stop :
             (h .0, ap numbered (h .1));
       }
 
-  done-says : budget ≤ 1000000 → RunSays image execution bootstrap ram paper budget stop (doneRun image execution bootstrap ram paper journal budget stop)
+  done-says : budget ≤ 1000000 → RunSays b budget stop (doneRun b budget stop)
   unfolding doneRun
   done-says most =
-      let roms = romsOf execution bootstrap in
-      says-of (ranOf image execution bootstrap ram paper journal budget stop) most
-      (run-steps (forward roms) (slotsOf journal) (λ w. refl) budget (not (eqb stop 0)) (configOf roms (machineOf image) ram paper journal))
+      let roms = romsIn (b .beside) in
+      says-of (ranOf b budget stop) most
+      (run-steps (forward roms) (slotsOf (b .beside .journal)) (λ w. refl) budget (not (eqb stop 0)) (configOf roms (machineOf (b .image)) (b .beside)))
 
   -- THE THEOREM
-  pub run-says : runNumber image execution bootstrap ram paper journal budget stop ≡ 0 →
-      RunSays image execution bootstrap ram paper budget stop (runLeaves image execution bootstrap ram paper journal budget stop)
+  pub run-says : runNumber b budget stop ≡ 0 → RunSays b budget stop (runLeaves b budget stop)
   run-says e =
-      let t = number-0 image execution bootstrap ram paper journal budget stop .0 e in
-      subst (λ (l : Left). RunSays image execution bootstrap ram paper budget stop l)
-      (sym (done-is image execution bootstrap ram paper journal budget stop e)) (done-says (leb-true budget 1000000 (t .1 .1 .1 .1 .1)))
+      let t = number-0 b budget stop .0 e in
+      subst (λ (l : Left). RunSays b budget stop l) (sym (done-is b budget stop e)) (done-says (leb-true budget 1000000 (t .1 .1 .1 .1 .1)))
 
   -- done or refused, the answer fits in the 64 bits that it is packed in
-  pub packed-fits : packedOf (runLeaves image execution bootstrap ram paper journal budget stop .answer) < 2 ^ 64
+  pub packed-fits : packedOf (runLeaves b budget stop .answer) < 2 ^ 64
   packed-fits = by (ℕ-discrete number 0)
     where
       left : Left
-      left = runLeaves image execution bootstrap ram paper journal budget stop
+      left = runLeaves b budget stop
 
       number : ℕ
-      number = runNumber image execution bootstrap ram paper journal budget stop
+      number = runNumber b budget stop
 
       small : number ≤ 6
-      small = no-other image execution bootstrap ram paper journal budget stop
+      small = no-other b budget stop
 
       fits : (reasonOf (left .answer) ≡ 1) ⊎ (reasonOf (left .answer) ≡ 2) → stepsOf (left .answer) < 2 ^ 32 → packedOf (left .answer) < 2 ^ 64
       fits (inl e) h = omega (arith, small, e, h)
@@ -130,5 +127,5 @@ module _ (image execution bootstrap ram paper journal : List ℕ) (budget stop :
       by : Dec (number ≡ 0) → packedOf (left .answer) < 2 ^ 64
       by (yes e) = let s = run-says e in fits (s .why) (s .small)
       by (no h) =
-          let u = refused-same image execution bootstrap ram paper journal budget stop h in
+          let u = refused-same b budget stop h in
           omega (arith, small, u .no-steps, u .no-reason)

@@ -3,7 +3,6 @@ use Prim.Native.Nat.{ℕ, zero, suc, _≤_}
 use mathlib.Core.Path.{_≡_, refl, sym, ap, subst, _∙_}
 use mathlib.Core.Logic.{_↔_}
 use mathlib.Core.Bool.{Bool, true, false, cond}
-use mathlib.Core.List.{List}
 use native.Mathlib.Omega.{arith}
 use lib.Dec.{leb}
 use lib.ListN.{length}
@@ -12,10 +11,12 @@ use Rattle.answer.specs.declared.Refusal.the-variants.{Ram, Rom, Paper, Journal
 use Rattle.answer.specs.declared.Answer.{Answer}
 use Rattle.answer.specs.declared.lent.Test.{Test}
 use Rattle.answer.specs.declared.lent.Test.the-variants.{Passed, Failed}
-use Rattle.answer.specs.Answer.{numberOf, reasonOf, stepsOf}
+use Rattle.answer.specs.Answer.{numberOf}
 use Rattle.answer.specs.Lent.{ramFits, romsFit, paperFits, journalFits, lentTest}
-use Rattle.forward.specs.Run.{imageTest, runTest, Left, leftOf, leftBy, doneRun, runLeaves}
 use Rattle.answer.specs.Lent.{andThen}
+use Rattle.turn.specs.Buffers.{Buffers}
+use Rattle.accepted.specs.Left.{Left, leftOf, leftBy, Unchanged}
+use Rattle.forward.specs.Run.{imageTest, runTest, doneRun, runLeaves}
 
 -- ---- six tests in a row
 
@@ -37,9 +38,9 @@ testOf a b c d e f =
     (cond e (cond f Passed (Failed Range)) (Failed Image))
 
 -- which tests led to which number, where what is done has the number 0
-module _ (done : Left) (zeroed : numberOf (done .answer) ≡ 0) (image ram paper journal : List ℕ) where
+module _ (done : Left) (zeroed : numberOf (done .answer) ≡ 0) (buffers : Buffers) where
   abbrev numbered : Test → ℕ
-  numbered t = numberOf (leftBy t done image ram paper journal .answer)
+  numbered t = numberOf (leftBy t done buffers .answer)
 
   by-number : (a b c d e f : Bool) → Says (numbered (testOf a b c d e f)) a b c d e f
   by-number true true true true true true =
@@ -75,29 +76,19 @@ at-most (suc (suc (suc (suc (suc (suc (suc n))))))) a b c d e f s = absurd s
 
 -- ---- a refusal
 
--- every byte is as it was, and nothing was run
-pub record Unchanged (left : Left) (image ram paper journal : List ℕ) : Type 0 where
-  pub image-same : left .image ≡ image
-  pub ram-same : left .ram ≡ ram
-  pub paper-same : left .paper ≡ paper
-  pub journal-same : left .journal ≡ journal
-  pub no-steps : stepsOf (left .answer) ≡ 0
-  pub no-reason : reasonOf (left .answer) ≡ 0
-
-unchanged : (t : Test) (done : Left) (image ram paper journal : List ℕ) → numberOf (done .answer) ≡ 0 →
-    let left = leftBy t done image ram paper journal in (numberOf (left .answer) ≡ 0 → ⊥) → Unchanged left image ram paper journal
-unchanged Passed done image ram paper journal zeroed h = absurd (h zeroed)
-unchanged (Failed refusal) done image ram paper journal zeroed h =
-    record { image-same = refl; ram-same = refl; paper-same = refl; journal-same = refl; no-steps = refl; no-reason = refl }
+unchanged : (t : Test) (done : Left) (buffers : Buffers) → numberOf (done .answer) ≡ 0 →
+    let left = leftBy t done buffers in (numberOf (left .answer) ≡ 0 → ⊥) → Unchanged left buffers
+unchanged Passed done buffers zeroed h = absurd (h zeroed)
+unchanged (Failed refusal) done buffers zeroed h = record { same = refl; no-steps = refl; no-reason = refl }
 
 -- ---- the call
 
-module _ (image execution bootstrap ram paper journal : List ℕ) (budget stop : ℕ) where
+module _ (buffers : Buffers) (budget stop : ℕ) where
   abbrev left : Left
-  left = runLeaves image execution bootstrap ram paper journal budget stop
+  left = runLeaves buffers budget stop
 
   abbrev done : Left
-  done = doneRun image execution bootstrap ram paper journal budget stop
+  done = doneRun buffers budget stop
 
   abbrev pub runNumber : ℕ
   runNumber = numberOf (left .answer)
@@ -108,33 +99,33 @@ module _ (image execution bootstrap ram paper journal : List ℕ) (budget stop :
 
   -- rows 1 to 6 of the numbers, as tests
   abbrev row-1 : Bool
-  row-1 = ramFits (length ram)
+  row-1 = ramFits (length (buffers .beside .ram))
 
   abbrev row-2 : Bool
-  row-2 = romsFit (length execution) (length bootstrap)
+  row-2 = romsFit (length (buffers .beside .execution)) (length (buffers .beside .bootstrap))
 
   abbrev row-3 : Bool
-  row-3 = paperFits (length paper)
+  row-3 = paperFits (length (buffers .beside .paper))
 
   abbrev row-4 : Bool
-  row-4 = journalFits (length journal)
+  row-4 = journalFits (length (buffers .beside .journal))
 
   abbrev row-5 : Bool
-  row-5 = goodImage image (length paper) (length journal)
+  row-5 = goodImage (buffers .image) (length (buffers .beside .paper)) (length (buffers .beside .journal))
 
   abbrev row-6 : Bool
   row-6 = leb budget 1000000
 
   says : Says runNumber row-1 row-2 row-3 row-4 row-5 row-6
   unfolding runLeaves lentTest imageTest
-  says = by-number done done-zero image ram paper journal row-1 row-2 row-3 row-4 row-5 row-6
+  says = by-number done done-zero buffers row-1 row-2 row-3 row-4 row-5 row-6
 
   -- each number is answered exactly when its row fails and no lower row does
   exact : (n : ℕ) → (runNumber ≡ n) ↔ Says n row-1 row-2 row-3 row-4 row-5 row-6
   unfolding runLeaves lentTest imageTest
   exact n = (
     λ h. subst (λ (k : ℕ). Says k row-1 row-2 row-3 row-4 row-5 row-6) h says,
-    λ h. by-tests done done-zero image ram paper journal n row-1 row-2 row-3 row-4 row-5 row-6 h,
+    λ h. by-tests done done-zero buffers n row-1 row-2 row-3 row-4 row-5 row-6 h,
   )
 
   pub number-1 : (runNumber ≡ 1) ↔ (row-1 ≡ false)
@@ -163,11 +154,11 @@ module _ (image execution bootstrap ram paper journal : List ℕ) (budget stop :
   no-other = at-most runNumber row-1 row-2 row-3 row-4 row-5 row-6 says
 
   -- a refusal leaves every byte as it was
-  pub refused-same : (runNumber ≡ 0 → ⊥) → Unchanged left image ram paper journal
+  pub refused-same : (runNumber ≡ 0 → ⊥) → Unchanged left buffers
   unfolding runLeaves
-  refused-same h = unchanged (runTest image execution bootstrap ram paper journal budget) done image ram paper journal done-zero h
+  refused-same h = unchanged (runTest buffers budget) done buffers done-zero h
 
-  passed : runNumber ≡ 0 → runTest image execution bootstrap ram paper journal budget ≡ Passed
+  passed : runNumber ≡ 0 → runTest buffers budget ≡ Passed
   unfolding lentTest imageTest
   passed e =
       let h = number-0 .0 e in
@@ -176,12 +167,10 @@ module _ (image execution bootstrap ram paper journal : List ℕ) (budget stop :
   -- what is not refused is run
   pub done-is : runNumber ≡ 0 → left ≡ done
   unfolding runLeaves
-  done-is e = ap (λ (t : Test). leftBy t done image ram paper journal) (passed e)
+  done-is e = ap (λ (t : Test). leftBy t done buffers) (passed e)
 
   -- what two calls answer and leave that both keep the contract is the same
-  pub one-answer : {r₁ r₂ : Answer} {image₁ image₂ ram₁ ram₂ paper₁ paper₂ journal₁ journal₂ : List ℕ} →
-      leftOf r₁ image₁ ram₁ paper₁ journal₁ ≡ left → leftOf r₂ image₂ ram₂ paper₂ journal₂ ≡ left →
-      (r₁ ≡ r₂) × ((image₁ ≡ image₂) × ((ram₁ ≡ ram₂) × ((paper₁ ≡ paper₂) × (journal₁ ≡ journal₂))))
+  pub one-answer : {r₁ r₂ : Answer} {after₁ after₂ : Buffers} → leftOf r₁ after₁ ≡ left → leftOf r₂ after₂ ≡ left → (r₁ ≡ r₂) × (after₁ ≡ after₂)
   one-answer p q =
       let e = p ∙ sym q in
-      (ap (λ (l : Left). l .answer) e, (ap (λ (l : Left). l .image) e, (ap (λ (l : Left). l .ram) e, (ap (λ (l : Left). l .paper) e, ap (λ (l : Left). l .journal) e))))
+      (ap (λ (l : Left). l .answer) e, ap (λ (l : Left). l .buffers) e)

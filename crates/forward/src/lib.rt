@@ -3,8 +3,9 @@ ghost use mathlib.Core.Path.{_≡_};
 ghost use lib.ListN.{length};
 ghost use Rattle.run.specs.Run.{Fits};
 ghost use Rattle.state.specs.Layout.{machineOf};
-ghost use Rattle.answer.specs.Lent.{lentTest};
-ghost use Rattle.forward.specs.Run.{imageTest, leftOf, leftBy, reasonNamed, doneRun, runLeaves};
+ghost use Rattle.turn.specs.Buffers.{besideOf, buffersOf};
+ghost use Rattle.accepted.specs.Left.{leftOf};
+ghost use Rattle.forward.specs.Run.{besideTest, reasonNamed, doneRun, runLeaves, imageLeaves};
 use answer::Answer;
 use answer::Reason;
 use answer::Refusal;
@@ -38,10 +39,12 @@ fn done(
 ) -> Answer
     requires { ⌜ machine ≡ machineOf (now image) ⌝ }
     requires { ⌜ length (now image) ≡ 501 ⌝ }
-    requires { ⌜ Fits (now execution) (now bootstrap) (now ram) (now paper) (now journal) machine ⌝ }
+    requires { ⌜ Fits (besideOf (now execution) (now bootstrap) (now ram) (now paper) (now journal)) machine ⌝ }
     ensures { λ r. ⌜
-        leftOf r (now (image .exit)) (now (ram .exit)) (now (paper .exit)) (now (journal .exit))
-        ≡ doneRun (now (image .entry)) (now (execution .entry)) (now (bootstrap .entry)) (now (ram .entry)) (now (paper .entry)) (now (journal .entry)) budget stop
+        leftOf r (buffersOf (now (image .exit)) (now (execution .entry)) (now (bootstrap .entry)) (now (ram .exit)) (now (paper .exit)) (now (journal .exit)))
+        ≡ doneRun
+        (buffersOf (now (image .entry)) (now (execution .entry)) (now (bootstrap .entry)) (now (ram .entry)) (now (paper .entry)) (now (journal .entry)))
+        budget stop
         ⌝ }
 {
     let ran = run::run(
@@ -71,12 +74,12 @@ fn with_image(
     budget: u64,
     stop: u64,
 ) -> Answer
-    requires { ⌜ lentTest (length (now execution)) (length (now bootstrap)) (length (now ram)) (length (now paper)) (length (now journal)) ≡ Test.Passed ⌝ }
+    requires { ⌜ besideTest (besideOf (now execution) (now bootstrap) (now ram) (now paper) (now journal)) ≡ Test.Passed ⌝ }
     ensures { λ r. ⌜
-        leftOf r (now (image .exit)) (now (ram .exit)) (now (paper .exit)) (now (journal .exit))
-        ≡ leftBy (imageTest (now (image .entry)) (length (now (paper .entry))) (length (now (journal .entry))) budget)
-        (doneRun (now (image .entry)) (now (execution .entry)) (now (bootstrap .entry)) (now (ram .entry)) (now (paper .entry)) (now (journal .entry)) budget stop)
-        (now (image .entry)) (now (ram .entry)) (now (paper .entry)) (now (journal .entry))
+        leftOf r (buffersOf (now (image .exit)) (now (execution .entry)) (now (bootstrap .entry)) (now (ram .exit)) (now (paper .exit)) (now (journal .exit)))
+        ≡ imageLeaves
+        (buffersOf (now (image .entry)) (now (execution .entry)) (now (bootstrap .entry)) (now (ram .entry)) (now (paper .entry)) (now (journal .entry)))
+        budget stop
         ⌝ }
 {
     if image.len() != 501 {
@@ -114,8 +117,10 @@ pub fn run(
     stop: u64,
 ) -> Answer
     ensures { λ r. ⌜
-        leftOf r (now (image .exit)) (now (ram .exit)) (now (paper .exit)) (now (journal .exit))
-        ≡ runLeaves (now (image .entry)) (now (execution .entry)) (now (bootstrap .entry)) (now (ram .entry)) (now (paper .entry)) (now (journal .entry)) budget stop
+        leftOf r (buffersOf (now (image .exit)) (now (execution .entry)) (now (bootstrap .entry)) (now (ram .exit)) (now (paper .exit)) (now (journal .exit)))
+        ≡ runLeaves
+        (buffersOf (now (image .entry)) (now (execution .entry)) (now (bootstrap .entry)) (now (ram .entry)) (now (paper .entry)) (now (journal .entry)))
+        budget stop
         ⌝ }
 {
     let test = lent_test(

@@ -1,5 +1,6 @@
 // The calls for C, as include/lavushmir.h declares them.
-ghost use Rattle.lavushmir.specs.Panel.{PackedResetIs, PackedRunIs, PackedBackIs};
+ghost use Rattle.turn.specs.Buffers.{buffersOf, buffersBack};
+ghost use Rattle.lavushmir.specs.Panel.{PackedResetIs, PackedIs};
 ghost use Rattle.forward.specs.Run.{runLeaves};
 ghost use Rattle.backward.specs.Back.{backLeaves};
 use answer::packed;
@@ -31,10 +32,12 @@ pub extern "C" fn lavushmir_run(
     stop_at_exceptions: u64,
 ) -> u64
     ensures { λ r. ⌜
-        PackedRunIs
-        (runLeaves (now (image .entry)) (now («execution_rom» .entry)) (now («bootstrap_rom» .entry)) (now (ram .entry)) (now (paper .entry)) (now (journal .entry)) budget
-        «stop_at_exceptions»)
-        r (now (image .exit)) (now (ram .exit)) (now (paper .exit)) (now (journal .exit))
+        PackedIs
+        (runLeaves
+        (buffersOf (now (image .entry)) (now («execution_rom» .entry)) (now («bootstrap_rom» .entry)) (now (ram .entry)) (now (paper .entry)) (now (journal .entry)))
+        budget «stop_at_exceptions»)
+        r
+        (buffersOf (now (image .exit)) (now («execution_rom» .entry)) (now («bootstrap_rom» .entry)) (now (ram .exit)) (now (paper .exit)) (now (journal .exit)))
         ⌝ }
 {
     packed(run(
@@ -58,8 +61,9 @@ pub extern "C" fn lavushmir_take_back(
     steps: u64,
 ) -> u64
     ensures { λ r. ⌜
-        PackedBackIs (backLeaves (now (image .entry)) (now (ram .entry)) (now (paper .entry)) (now (journal .entry)) steps)
-        r (now (image .exit)) (now (ram .exit)) (now (paper .exit))
+        PackedIs (backLeaves (buffersBack (now (image .entry)) (now (ram .entry)) (now (paper .entry)) (now (journal .entry))) steps)
+        r
+        (buffersBack (now (image .exit)) (now (ram .exit)) (now (paper .exit)) (now (journal .entry)))
         ⌝ }
 {
     packed(take_back(image, ram, paper, journal, steps))

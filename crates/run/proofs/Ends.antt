@@ -11,7 +11,7 @@ use Rattle.state.specs.declared.machine.Machine.{Machine}
 use Rattle.held.proofs.Board.{held-printers, length-held}
 use Rattle.held.proofs.CoreWords.{core-held}
 use Rattle.step.specs.World.{Roms}
-use Rattle.turn.specs.Turn.{Buffers, romsIn}
+use Rattle.turn.specs.Buffers.{Beside, romsIn}
 use Rattle.turn.specs.declared.Parts.{Parts}
 use Rattle.run.specs.Run.{forward, reasonOf, Fits, RunIs}
 use Rattle.run.specs.Run as run
@@ -19,10 +19,10 @@ use Rattle.run.specs.Spin.{partsOf, machineOf, configOf, Ready, SpinIs}
 use Rattle.run.specs.declared.Spun.{Spun}
 
 module _ (m : Machine) (eight : length (m .board .line .printers) ≡ 8) (sixteen : length (m .cpu .tlb) ≡ 16) where
-  opened-config : (roms : Roms) (b : Buffers) → configOf roms (m .board .settings) (partsOf m) b ≡ run.configOf roms m (b .ram) (b .paper) (b .journal)
+  opened-config : (roms : Roms) (b : Beside) → configOf roms (m .board .settings) (partsOf m) b ≡ run.configOf roms m b
   opened-config roms b = rw (core-held (m .cpu .core), held-printers (m .board .line .printers) eight)
 
-  pub opened-ready : {p : Parts} (b : Buffers) → p ≡ partsOf m → Fits (b .execution) (b .bootstrap) (b .ram) (b .paper) (b .journal) m → Ready p b
+  pub opened-ready : {p : Parts} (b : Beside) → p ≡ partsOf m → Fits b m → Ready p b
   opened-ready b is fits =
       rw is
       (record {
@@ -39,13 +39,12 @@ module _ (m : Machine) (eight : length (m .board .line .printers) ≡ 8) (sixtee
       })
 
   -- the loop from the opened parts, closed again, is the run
-  pub spun-is : (b b′ : Buffers) (budget : ℕ) (stop : Bool) {p : Parts} (r : Spun) {after : Machine} →
+  pub spun-is : (b b′ : Beside) (budget : ℕ) (stop : Bool) {p : Parts} (r : Spun) {after : Machine} →
       p ≡ partsOf m → SpinIs budget stop (m .board .settings) p b r b′ → after ≡ machineOf (r .parts) (m .board .settings) →
-      RunIs (b .execution) (b .bootstrap) budget stop m (b .ram) (b .paper) (b .journal) (record { machine = after; steps = r .steps; why = r .why })
-      (b′ .ram) (b′ .paper) (b′ .journal)
+      RunIs budget stop m b (record { machine = after; steps = r .steps; why = r .why }) b′
   spun-is b b′ budget stop r opened spun closed =
       let roms = romsIn b in
-      ap (λ (x : Machine). ended (run.configOf roms x (b′ .ram) (b′ .paper) (b′ .journal)) (r .steps) (reasonOf (r .why))) closed
+      ap (λ (x : Machine). ended (run.configOf roms x b′) (r .steps) (reasonOf (r .why))) closed
       ∙ spun
       ∙ ap (λ (x : Parts). ring.run (forward roms) (slotsOf (b .journal)) budget stop (configOf roms (m .board .settings) x b)) opened
       ∙ ap (λ (x : Config (forward roms)). ring.run (forward roms) (slotsOf (b .journal)) budget stop x) (opened-config roms b)

@@ -23,7 +23,8 @@ use Rattle.held.proofs.Board.{length-printers}
 use Rattle.step.specs.World.{World, Roms}
 use Rattle.step.specs.Step.{enters, raisesOf, stepOf}
 use Rattle.step.specs.Note.{noteOf}
-use Rattle.turn.specs.Turn.{Buffers, romsIn, worldHeld, TurnIs}
+use Rattle.turn.specs.Buffers.{Beside, romsIn}
+use Rattle.turn.specs.Turn.{worldHeld, TurnIs}
 use Rattle.turn.specs.declared.Parts.{Parts}
 use Rattle.run.specs.Run.{forward}
 use Rattle.run.specs.Spin.{configOf}
@@ -52,7 +53,7 @@ in-rows room rows is w = rw is at w
 abbrev pub withRows : List Row → Parts → Parts
 withRows rows p = record { core = p .core; held = p .held; regs = p .regs; rows = rows; words = p .words; mark = p .mark }
 
-module _ (n budget : ℕ) (stop : Bool) {settings : Settings} {p p′ : Parts} {b b′ : Buffers} {e : Effect} (turned : TurnIs settings p b e p′ b′) where
+module _ (n budget : ℕ) (stop : Bool) {settings : Settings} {p p′ : Parts} {b b′ : Beside} {e : Effect} (turned : TurnIs settings p b e p′ b′) where
   abbrev roms : Roms
   roms = romsIn b
 

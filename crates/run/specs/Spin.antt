@@ -16,7 +16,8 @@ use Rattle.decide.specs.Lent.{Whole}
 use Rattle.held.specs.Board.{boardOf, Told}
 use Rattle.held.specs.Core.{coreIn}
 use Rattle.step.specs.World.{Roms}
-use Rattle.turn.specs.Turn.{Buffers, romsIn, lentFrom, worldHeld}
+use Rattle.turn.specs.Buffers.{Beside, romsIn}
+use Rattle.turn.specs.Turn.{lentFrom, worldHeld}
 use Rattle.turn.specs.declared.Parts.{Parts}
 use Rattle.run.specs.Run.{forward, reasonOf}
 use Rattle.run.specs.declared.Spun.{Spun}
@@ -40,10 +41,10 @@ machineOf p settings =
       journal = p .mark;
     }
 
-abbrev pub configOf : (roms : Roms) → Settings → Parts → Buffers → Config (forward roms)
+abbrev pub configOf : (roms : Roms) → Settings → Parts → Beside → Config (forward roms)
 configOf roms settings p b = record { state = worldHeld p settings b; ring = ringOf (p .mark) (b .journal) }
 
-pub record Ready (p : Parts) (b : Buffers) : Type 0 where
+pub record Ready (p : Parts) (b : Beside) : Type 0 where
   pub twelve : length (p .core) ≡ 12
   pub table : length (p .rows) ≡ 16
   pub told : Told (p .held) (p .words)
@@ -51,8 +52,8 @@ pub record Ready (p : Parts) (b : Buffers) : Type 0 where
   pub short : length (b .paper) ≤ 65536
   pub ready : slots.Ready (b .journal) (p .mark)
 
--- b′ are the buffers that the loop leaves
-abbrev pub SpinIs : ℕ → Bool → Settings → Parts → Buffers → Spun → (b′ : Buffers) → Type 0
+-- b′ is what is lent as the loop leaves it
+abbrev pub SpinIs : ℕ → Bool → Settings → Parts → Beside → Spun → (b′ : Beside) → Type 0
 SpinIs budget stop settings p b r b′ =
     let roms = romsIn b in
     ended (configOf roms settings (r .parts) b′) (r .steps) (reasonOf (r .why))

@@ -1,7 +1,7 @@
 // The run loop. It holds the machine's parts as locals, so that no step copies them all: the registers, and as words the core and the printers, are lent to each step
 // and changed where they stand; the translation table is passed by value to what asks it, and handed back whole where a row is written.
 ghost use mathlib.Core.Path.{_≡_};
-ghost use Rattle.turn.specs.Turn.{buffersOf};
+ghost use Rattle.turn.specs.Buffers.{besideOf};
 ghost use Rattle.run.specs.Run.{Fits, RunIs};
 ghost use Rattle.run.specs.Spin.{partsOf, machineOf, Ready, SpinIs};
 use decide::effect::Effect;
@@ -106,12 +106,12 @@ fn spin(
     budget: u32,
     stop: bool,
 ) -> Spun
-    requires { ⌜ Ready parts (buffersOf (now execution) (now bootstrap) (now ram) (now paper) (now journal)) ⌝ }
+    requires { ⌜ Ready parts (besideOf (now execution) (now bootstrap) (now ram) (now paper) (now journal)) ⌝ }
     ensures { λ r. ⌜
         SpinIs budget stop settings parts
-        (buffersOf (now (execution .entry)) (now (bootstrap .entry)) (now (ram .entry)) (now (paper .entry)) (now (journal .entry)))
+        (besideOf (now (execution .entry)) (now (bootstrap .entry)) (now (ram .entry)) (now (paper .entry)) (now (journal .entry)))
         r
-        (buffersOf (now (execution .entry)) (now (bootstrap .entry)) (now (ram .exit)) (now (paper .exit)) (now (journal .exit)))
+        (besideOf (now (execution .entry)) (now (bootstrap .entry)) (now (ram .exit)) (now (paper .exit)) (now (journal .exit)))
         ⌝ }
 {
     let mut core = parts.core;
@@ -191,10 +191,12 @@ pub fn run(
     budget: u32,
     stop: bool,
 ) -> Outcome
-    requires { ⌜ Fits (now execution) (now bootstrap) (now ram) (now paper) (now journal) machine ⌝ }
+    requires { ⌜ Fits (besideOf (now execution) (now bootstrap) (now ram) (now paper) (now journal)) machine ⌝ }
     ensures { λ r. ⌜
-        RunIs (now (execution .entry)) (now (bootstrap .entry)) budget stop machine (now (ram .entry)) (now (paper .entry))
-        (now (journal .entry)) r (now (ram .exit)) (now (paper .exit)) (now (journal .exit))
+        RunIs budget stop machine
+        (besideOf (now (execution .entry)) (now (bootstrap .entry)) (now (ram .entry)) (now (paper .entry)) (now (journal .entry)))
+        r
+        (besideOf (now (execution .entry)) (now (bootstrap .entry)) (now (ram .exit)) (now (paper .exit)) (now (journal .exit)))
         ⌝ }
 {
     let board = machine.board;

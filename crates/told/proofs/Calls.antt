@@ -11,7 +11,7 @@ use Rattle.journal.specs.Journal.{slotsOf}
 use Rattle.state.specs.Layout.{machineOf}
 use Rattle.state.specs.declared.machine.Journal.{Journal}
 use Rattle.back.specs.Back.{both}
-use Rattle.demand3.specs.Demand3.{Call, Host, Boot, Booted, calledAll, romsIn, resetTo, worldAt}
+use Rattle.demand3.specs.Demand3.{Call, Host, Boot, Booted, calledAll, romsAt, resetTo, worldAt}
 use Rattle.demand3.proofs.Boot.{boot-allowed}
 use Rattle.demand3.proofs.Carried.{configAt, carried-start}
 use Rattle.demand3.proofs.Demand3.{carried-all}
@@ -23,41 +23,41 @@ use Rattle.told.proofs.History.{holds-tells, holds-only, holds-newest, 
 
 module _ (b : Boot) (p : Booted b) (calls : List Call) where
   abbrev h : Host
-  h = calledAll (romsIn b) calls (resetTo b)
+  h = calledAll calls (resetTo b)
 
   -- the image's two words
   abbrev mark : Journal
-  mark = machineOf (h .image) .journal
+  mark = machineOf (h .buffers .image) .journal
 
   abbrev HoldsIn : ℕ → Type 0
-  HoldsIn n = Holds (both (romsIn b)) (worldAt (resetTo b)) (length (b .journal)) n (net (h .events)) (configAt b h)
+  HoldsIn n = Holds (both (romsAt b)) (worldAt (resetTo b)) (length (b .buffers .beside .journal)) n (net (h .events)) (configAt b h)
 
-  held : HoldsIn (slotsOf (h .journal))
+  held : HoldsIn (slotsOf (h .buffers .beside .journal))
   held =
       let k = carried-all b p calls (resetTo b) (carried-start b p) .kept .holds in
       subst HoldsIn (ap (λ (bytes : ℕ). bytes / 256) (sym (k .long))) k
 
   -- last_change, of a word that RAM has
-  pub change-told : (place : ℕ) → hasWord (h .ram) place ≡ true →
-      Tells (agoIn b h) (mark .«on_hand») place (lastChangeOf (h .ram) (h .journal) (mark .«on_hand») (mark .«next_slot») place)
+  pub change-told : (place : ℕ) → hasWord (h .buffers .beside .ram) place ≡ true →
+      Tells (agoIn b h) (mark .«on_hand») place (lastChangeOf (h .buffers .beside .ram) (h .buffers .beside .journal) (mark .«on_hand») (mark .«next_slot») place)
   change-told place has =
-      holds-tells (romsIn b) (p .execution-bytes) (p .bootstrap-bytes) (worldAt (resetTo b)) (boot-allowed b p) (length (b .journal)) (net (h .events))
+      holds-tells (romsAt b) (p .execution-bytes) (p .bootstrap-bytes) (worldAt (resetTo b)) (boot-allowed b p) (length (b .buffers .beside .journal)) (net (h .events))
       (configAt b h) held place has
 
   -- so each answer of it is told exactly where it holds
-  pub change-only : (place : ℕ) → hasWord (h .ram) place ≡ true → (r : Sought) → Tells (agoIn b h) (mark .«on_hand») place r →
-      r ≡ lastChangeOf (h .ram) (h .journal) (mark .«on_hand») (mark .«next_slot») place
+  pub change-only : (place : ℕ) → hasWord (h .buffers .beside .ram) place ≡ true → (r : Sought) → Tells (agoIn b h) (mark .«on_hand») place r →
+      r ≡ lastChangeOf (h .buffers .beside .ram) (h .buffers .beside .journal) (mark .«on_hand») (mark .«next_slot») place
   change-only place has =
-      holds-only (romsIn b) (p .execution-bytes) (p .bootstrap-bytes) (worldAt (resetTo b)) (boot-allowed b p) (length (b .journal)) (net (h .events))
+      holds-only (romsAt b) (p .execution-bytes) (p .bootstrap-bytes) (worldAt (resetTo b)) (boot-allowed b p) (length (b .buffers .beside .journal)) (net (h .events))
       (configAt b h) held place has
 
   -- newest_at and oldest_at, over the PCs that the steps on hand were made at
-  pub newest-told : (pc : ℕ) → newestAtOf (h .journal) (mark .«on_hand») (mark .«next_slot») pc ≡ newest pc 0 (pcsAgo (agoIn b h) (mark .«on_hand»))
+  pub newest-told : (pc : ℕ) → newestAtOf (h .buffers .beside .journal) (mark .«on_hand») (mark .«next_slot») pc ≡ newest pc 0 (pcsAgo (agoIn b h) (mark .«on_hand»))
   newest-told pc =
-      holds-newest (romsIn b) (p .execution-bytes) (p .bootstrap-bytes) (worldAt (resetTo b)) (boot-allowed b p) (length (b .journal)) (net (h .events))
+      holds-newest (romsAt b) (p .execution-bytes) (p .bootstrap-bytes) (worldAt (resetTo b)) (boot-allowed b p) (length (b .buffers .beside .journal)) (net (h .events))
       (configAt b h) held pc
 
-  pub oldest-told : (pc : ℕ) → oldestAtOf (h .journal) (mark .«on_hand») (mark .«next_slot») pc ≡ oldest pc (pcsAgo (agoIn b h) (mark .«on_hand»)) (mark .«on_hand»)
+  pub oldest-told : (pc : ℕ) → oldestAtOf (h .buffers .beside .journal) (mark .«on_hand») (mark .«next_slot») pc ≡ oldest pc (pcsAgo (agoIn b h) (mark .«on_hand»)) (mark .«on_hand»)
   oldest-told pc =
-      holds-oldest (romsIn b) (p .execution-bytes) (p .bootstrap-bytes) (worldAt (resetTo b)) (boot-allowed b p) (length (b .journal)) (net (h .events))
+      holds-oldest (romsAt b) (p .execution-bytes) (p .bootstrap-bytes) (worldAt (resetTo b)) (boot-allowed b p) (length (b .buffers .beside .journal)) (net (h .events))
       (configAt b h) held pc

@@ -9,7 +9,7 @@ use Rattle.ring.specs.Machine.{iterate}
 use Rattle.ring.specs.Calls.{net}
 use Rattle.step.specs.World.{World}
 use Rattle.run.specs.Run.{forward}
-use Rattle.demand3.specs.Demand3.{Host, Boot, romsIn, resetTo, worldAt}
+use Rattle.demand3.specs.Demand3.{Host, Boot, romsAt, resetTo, worldAt}
 use Rattle.seek.specs.declared.Sought.{Sought}
 use Rattle.seek.specs.declared.Sought.the-variants.{At, Nothing}
 
@@ -41,4 +41,4 @@ module _ (ago : ℕ → World) (hand : ℕ) where
 
 -- after calls from a reset: where the machine stood k steps ago, of the steps run less those taken back
 abbrev pub agoIn : Boot → Host → ℕ → World
-agoIn b h k = iterate (forward (romsIn b)) (net (h .events) - k) (worldAt (resetTo b))
+agoIn b h k = iterate (forward (romsAt b)) (net (h .events) - k) (worldAt (resetTo b))

@@ -41,7 +41,8 @@ use Rattle.held.specs.Board.{printersIn, boardOf}
 use Rattle.held.specs.Core.{coreIn}
 use Rattle.held.specs.declared.Held.{Held}
 use Rattle.held.proofs.Board.{length-printers}
-use Rattle.turn.specs.Turn.{Buffers, buffersOf, lentFrom, TurnIs}
+use Rattle.turn.specs.Buffers.{Beside, besideOf}
+use Rattle.turn.specs.Turn.{lentFrom, TurnIs}
 use Rattle.turn.specs.declared.Parts.{Parts}
 use Rattle.turn.specs.declared.Turned.{Turned}
 
@@ -111,7 +112,7 @@ pub still-ready : {mark : Journal} {journal : List ℕ} (r : Record) {begun : Li
 still-ready {mark} {journal} r ready eight first = rw first (begun-ready mark r journal eight ready)
 
 -- the record as it is begun
-abbrev pub begunRecord : Parts → Buffers → Record
+abbrev pub begunRecord : Parts → Beside → Record
 begunRecord p b = heldRecord (p .core) (p .held .clock .timer) (p .held .pending) (savedPaperOf (printersIn (p .words)) (b .paper)) (p .words)
 
 -- what the loop has after a turn: the table is what the effect leaves of it
@@ -120,7 +121,7 @@ partsLeft p d r core words regs =
     record { core = core; held = r .held; regs = regs; rows = rowsAfter (d .effect) (p .rows); words = words; mark = r .mark }
 
 -- start, decide, the old row, finish: together a turn
-pub turned-is : (settings : Settings) (p : Parts) (b : Buffers) → Whole (lentFrom b) → Ready (b .journal) (p .mark) → length (p .rows) ≡ 16 →
+pub turned-is : (settings : Settings) (p : Parts) (b : Beside) → Whole (lentFrom b) → Ready (b .journal) (p .mark) → length (p .rows) ≡ 16 →
     {after : Held} {core₁ words₁ paper₁ journal₁ : List ℕ} → TickIs settings (p .core) (p .held) (p .words) (b .paper) after core₁ words₁ paper₁ →
     journal₁ ≡ begunOf (p .mark) (begunRecord p b) (b .journal) →
     {core : Core} → core ≡ coreIn core₁ →
@@ -129,7 +130,7 @@ pub turned-is : (settings : Settings) (p : Parts) (b : Buffers) → Whole (lentF
     {r : Turned} {core₂ words₂ regs₂ ram₂ journal₂ : List ℕ} →
     ApplyIs settings (sizesOf (lentFrom b)) d core₁ after words₁ (p .regs) (b .ram) (r .held) core₂ words₂ regs₂ ram₂ →
     ringOf (r .mark) journal₂ ≡ endedOf (p .mark) (savedWith (d .effect) (p .regs) old (b .ram)) journal₁ →
-    TurnIs settings p b (d .effect) (partsLeft p d r core₂ words₂ regs₂) (buffersOf (b .execution) (b .bootstrap) ram₂ paper₁ journal₂)
+    TurnIs settings p b (d .effect) (partsLeft p d r core₂ words₂ regs₂) (besideOf (b .execution) (b .bootstrap) ram₂ paper₁ journal₂)
 turned-is settings p b whole ready sixteen {core₁ = core₁} ticked begun {core} read {d} decided {old} row applied ended =
     let x = b .execution in
     let y = b .bootstrap in

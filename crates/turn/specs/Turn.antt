@@ -13,27 +13,13 @@ use Rattle.decide.specs.declared.effect.Effect.{Effect}
 use Rattle.held.specs.Board.{boardOf, Told}
 use Rattle.held.specs.Core.{coreIn}
 use Rattle.held.specs.declared.Held.{Held}
-use Rattle.step.specs.World.{World, Roms, worldOf, romsOf}
+use Rattle.step.specs.World.{World, worldOf}
 use Rattle.step.specs.Step.{effectIn, stepOf}
 use Rattle.step.specs.Note.{noteOf}
+use Rattle.turn.specs.Buffers.{Beside, romsIn}
 use Rattle.turn.specs.declared.Parts.{Parts}
 
--- the buffers that the host lends a run beside the image
-pub record Buffers : Type 0 where
-  pub execution : List ℕ
-  pub bootstrap : List ℕ
-  pub ram : List ℕ
-  pub paper : List ℕ
-  pub journal : List ℕ
-
-abbrev pub buffersOf : (execution bootstrap ram paper journal : List ℕ) → Buffers
-buffersOf execution bootstrap ram paper journal =
-    record { execution = execution; bootstrap = bootstrap; ram = ram; paper = paper; journal = journal }
-
-abbrev pub romsIn : Buffers → Roms
-romsIn b = romsOf (b .execution) (b .bootstrap)
-
-abbrev pub lentFrom : Buffers → Lent
+abbrev pub lentFrom : Beside → Lent
 lentFrom b = lentOf (b .execution) (b .bootstrap) (b .ram)
 
 -- what the record and the tick ask
@@ -44,11 +30,11 @@ pub record Fit (core : List ℕ) (held : Held) (words paper journal : List ℕ) 
   pub ready : Ready journal mark
 
 -- the world of the parts that a run holds
-abbrev pub worldHeld : Parts → Settings → Buffers → World
+abbrev pub worldHeld : Parts → Settings → Beside → World
 worldHeld p settings b = worldOf (coreIn (p .core)) (boardOf (p .held) settings (p .words)) (p .regs) (p .rows) (b .ram) (b .paper)
 
 -- from the parts and buffers of a turn's start, with the effect of its step, to those that it leaves
-pub record TurnIs (settings : Settings) (p : Parts) (b : Buffers) (e : Effect) (p′ : Parts) (b′ : Buffers) : Type 0 where
+pub record TurnIs (settings : Settings) (p : Parts) (b : Beside) (e : Effect) (p′ : Parts) (b′ : Beside) : Type 0 where
   pub world-is : worldHeld p′ settings b′ ≡ stepOf (romsIn b) (worldHeld p settings b)
   pub effect-is : e ≡ effectIn (romsIn b) (worldHeld p settings b)
   pub ring-is :

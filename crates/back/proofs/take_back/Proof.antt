@@ -4,6 +4,7 @@ use borrow.Author.Tests.{not-true, not-false}
 use mathlib.Core.Path.{refl, sym, _∙_}
 use native.Mathlib.Nat.{le-trans}
 use native.Mathlib.Omega.{arith}
+use Rattle.turn.specs.Buffers.{besideBack}
 use Rattle.back.proofs.Answers.{takes-far, takes-bad, takes-done}
 use Rattle.back.proofs.take_back.Statement.{statement}
 use Rattle.back.proofs.take_back.Tie as tie
@@ -17,7 +18,7 @@ cast-next c = search needs
 returns : tie.Need-returns
 returns c =
     let a = c .before .before .before .before .before .before .before .args in
-    takes-far (a .steps) (a .m) (a .ram .now) (a .paper .now) (a .journal .now) (c .if1 .taken)
+    takes-far (a .steps) (a .m) (besideBack (a .ram .now) (a .paper .now) (a .journal .now)) (c .if1 .taken)
 
 all-fit-requires : tie.Need-all-fit-requires
 all-fit-requires c κs = search needs
@@ -26,7 +27,7 @@ returns-2 : tie.Need-returns-2
 returns-2 c =
     let near = c .before .before in
     let a = near .before .before .before .before .before .before .before .args in
-    takes-bad (a .steps) (a .m) (a .ram .now) (a .paper .now) (a .journal .now) (near .if1 .left)
+    takes-bad (a .steps) (a .m) (besideBack (a .ram .now) (a .paper .now) (a .journal .now)) (near .if1 .left)
     (sym (c .before .all-fit .ensures) ∙ not-true _ (c .if2 .taken))
 
 undo-all-requires : tie.Need-undo-all-requires
@@ -66,7 +67,7 @@ returns-3 c =
     let good = undid .before .before .before in
     let near = good .before .before in
     let a = near .before .before .before .before .before .before .before .args in
-    takes-done (a .steps) (a .m) (a .ram .now) (a .paper .now) (a .journal .now) (near .if1 .left)
+    takes-done (a .steps) (a .m) (besideBack (a .ram .now) (a .paper .now) (a .journal .now)) (near .if1 .left)
     (sym (good .before .all-fit .ensures) ∙ not-false _ (good .if2 .left))
     (undid .undo-all .result) _ _ _ _ (undid .undo-all .ensures .0) refl (c .slot-back .ensures .0)
 

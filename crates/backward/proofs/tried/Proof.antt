@@ -1,4 +1,5 @@
 -- `backward::tried` meets its contract.
+use Rattle.turn.specs.Buffers.{besideBack, buffersBack}
 use Rattle.backward.proofs.Backing.{few-steps, tried-is}
 use borrow.Author.Needs.{needs}
 use Rattle.backward.proofs.tried.Statement.{statement}
@@ -12,7 +13,7 @@ told-requires c κs =
     let took = c .before .before .before .before .before .before in
     let start = took .before .before .before .before .before .before .before in
     let a = start .args in
-    (start .pre .1 .0, λ e. few-steps (a .steps) (a .machine) (a .ram .now) (a .paper .now) (a .journal .now) (took .take-back .result) (start .pre .1 .1) (took .take-back .ensures) e)
+    (start .pre .1 .0, λ e. few-steps (a .steps) (a .machine) (besideBack (a .ram .now) (a .paper .now) (a .journal .now)) (took .take-back .result) (start .pre .1 .1) (took .take-back .ensures) e)
 
 same-length : tie.Need-same-length
 same-length c = search needs
@@ -29,7 +30,7 @@ returns c =
     let took = told .before .before .before .before .before .before .before in
     let start = took .before .before .before .before .before .before .before in
     let a = start .args in
-    tried-is (a .image .now) (a .ram .now) (a .paper .now) (a .journal .now) (a .steps) _ _ _ _ (took .take-back .result) (start .pre .0) (took .take-back .ensures) (told .told .ensures)
+    tried-is (buffersBack (a .image .now) (a .ram .now) (a .paper .now) (a .journal .now)) (a .steps) _ _ _ _ (took .take-back .result) (start .pre .0) (took .take-back .ensures) (told .told .ensures)
 
 pub tried-spec : {M : Type 1} → statement M
 tried-spec =

@@ -1,17 +1,23 @@
 -- `backward::with_image` meets its contract: one return for each answer.
 use mathlib.Core.Path.{sym, ap, _∙_}
-use lib.ListN.{length}
 use borrow.Author.Tests.{not-true, not-false}
+use Rattle.turn.specs.Buffers.{Buffers, buffersBack}
 use Rattle.rules.specs.declared.Verdict.{Verdict}
 use Rattle.backward.proofs.Backing.{fits-back, bad-length, bad-rules, all-passed}
 use borrow.Author.Needs.{needs}
 use Rattle.backward.proofs.with_image.Statement.{statement}
 use Rattle.backward.proofs.with_image.Tie as tie
 
+-- what is lent
+abbrev lent : tie.Start → Buffers
+lent s =
+    let a = s .args in
+    buffersBack (a .image .now) (a .ram .now) (a .paper .now) (a .journal .now)
+
 returns : tie.Need-returns
 returns c =
-    let a = c .before .before .before .before .before .args in
-    rw (bad-length (a .image .now) (length (a .paper .now)) (length (a .journal .now)) (c .if1 .taken))
+    let start = c .before .before .before .before .before in
+    rw (bad-length (lent start) (c .if1 .taken))
 
 judged-requires : tie.Need-judged-requires
 judged-requires c κs = search needs
@@ -22,17 +28,16 @@ same-length c = search needs
 returns-2 : tie.Need-returns-2
 returns-2 c =
     let judged = c .before .before in
-    let a = judged .before .before .before .before .before .before .before .args in
-    rw (bad-rules (a .image .now) (length (a .paper .now)) (length (a .journal .now)) (judged .before .before .if1 .left) (sym (ap (λ (v : Verdict). v .keeps) (judged .judged .ensures)) ∙ not-true _ (c .if2 .taken)))
+    let start = judged .before .before .before .before .before .before .before in
+    rw (bad-rules (lent start) (judged .before .before .if1 .left) (sym (ap (λ (v : Verdict). v .keeps) (judged .judged .ensures)) ∙ not-true _ (c .if2 .taken)))
 
 tried-requires : tie.Need-tried-requires
 tried-requires c κs =
     let judged = c .before .before .before .before .before .before in
     let start = judged .before .before .before .before .before .before .before in
-    let a = start .args in
     let is = ap (λ (v : Verdict). v .machine) (judged .judged .ensures) in
     let keeps = sym (ap (λ (v : Verdict). v .keeps) (judged .judged .ensures)) ∙ not-false _ (c .before .before .before .before .if2 .left) in
-    (is, (judged .before .before .if1 .left, fits-back (a .ram .now) (a .paper .now) (a .journal .now) (a .image .now) (start .pre) keeps is))
+    (is, (judged .before .before .if1 .left, fits-back (lent start) (start .pre) keeps is))
 
 same-length-2 : tie.Need-same-length-2
 same-length-2 c = search needs
@@ -47,9 +52,9 @@ returns-3 : tie.Need-returns-3
 returns-3 c =
     let tried = c .before .before .before .before .before .before in
     let judged = tried .before .before .before .before .before .before .before in
-    let a = judged .before .before .before .before .before .before .before .args in
+    let start = judged .before .before .before .before .before .before .before in
     let keeps = sym (ap (λ (v : Verdict). v .keeps) (judged .judged .ensures)) ∙ not-false _ (tried .before .before .before .before .before .if2 .left) in
-    rw (all-passed (a .image .now) (length (a .paper .now)) (length (a .journal .now)) (judged .before .before .if1 .left) keeps) (tried .tried .ensures)
+    rw (all-passed (lent start) (judged .before .before .if1 .left) keeps) (tried .tried .ensures)
 
 pub with-image-spec : {M : Type 1} → statement M
 with-image-spec =

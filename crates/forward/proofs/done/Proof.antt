@@ -1,4 +1,5 @@
 -- `forward::done` meets its contract.
+use Rattle.turn.specs.Buffers.{buffersOf}
 use Rattle.forward.proofs.Running.{done-is}
 use borrow.Author.Needs.{needs}
 use Rattle.forward.proofs.done.Statement.{statement}
@@ -31,7 +32,7 @@ returns c =
     let ran = encoded .before .before .before .before .before .before .before .before .before in
     let start = ran .before .before .before .before .before .before .before .before .before .before in
     let a = start .args in
-    done-is (a .image .now) (a .execution .now) (a .bootstrap .now) (a .ram .now) (a .paper .now) (a .journal .now) (a .budget) (a .stop) (ran .run .result)
+    done-is (buffersOf (a .image .now) (a .execution .now) (a .bootstrap .now) (a .ram .now) (a .paper .now) (a .journal .now)) (a .budget) (a .stop) (ran .run .result)
     (start .pre .0) (ran .run .ensures) (encoded .encode .ensures) (c .reason .ensures)
 
 pub done-spec : {M : Type 1} → statement M

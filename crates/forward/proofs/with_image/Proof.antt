@@ -1,6 +1,6 @@
 -- `forward::with_image` meets its contract: one return for each answer.
 use mathlib.Core.Path.{sym, ap, _∙_}
-use lib.ListN.{length}
+use Rattle.turn.specs.Buffers.{Buffers, buffersOf}
 use Rattle.rules.specs.declared.Verdict.{Verdict}
 use Rattle.forward.proofs.Running.{fits-run, bad-length, bad-rules, bad-budget, all-passed}
 use borrow.Author.Needs.{needs}
@@ -8,10 +8,16 @@ use borrow.Author.Tests.{not-true, not-false}
 use Rattle.forward.proofs.with_image.Statement.{statement}
 use Rattle.forward.proofs.with_image.Tie as tie
 
+-- what is lent
+abbrev lent : tie.Start → Buffers
+lent s =
+    let a = s .args in
+    buffersOf (a .image .now) (a .execution .now) (a .bootstrap .now) (a .ram .now) (a .paper .now) (a .journal .now)
+
 returns : tie.Need-returns
 returns c =
-    let a = c .before .before .before .before .before .before .before .args in
-    rw (bad-length (a .image .now) (length (a .paper .now)) (length (a .journal .now)) (a .budget) (c .if1 .taken))
+    let start = c .before .before .before .before .before .before .before in
+    rw (bad-length (lent start) (start .args .budget) (c .if1 .taken))
 
 judged-requires : tie.Need-judged-requires
 judged-requires c κs = search needs
@@ -22,8 +28,8 @@ same-length c = search needs
 returns-2 : tie.Need-returns-2
 returns-2 c =
     let judged = c .before .before in
-    let a = judged .before .before .before .before .before .before .before .before .before .args in
-    rw (bad-rules (a .image .now) (length (a .paper .now)) (length (a .journal .now)) (a .budget) (judged .before .before .if1 .left)
+    let start = judged .before .before .before .before .before .before .before .before .before in
+    rw (bad-rules (lent start) (start .args .budget) (judged .before .before .if1 .left)
     (sym (ap (λ (v : Verdict). v .keeps) (judged .judged .ensures)) ∙ not-true _ (c .if2 .taken)))
 
 same-length-2 : tie.Need-same-length-2
@@ -32,8 +38,8 @@ same-length-2 c = search needs
 returns-3 : tie.Need-returns-3
 returns-3 c =
     let judged = c .before .before .before in
-    let a = judged .before .before .before .before .before .before .before .before .before .args in
-    rw (bad-budget (a .image .now) (length (a .paper .now)) (length (a .journal .now)) (a .budget) (judged .before .before .if1 .left)
+    let start = judged .before .before .before .before .before .before .before .before .before in
+    rw (bad-budget (lent start) (start .args .budget) (judged .before .before .if1 .left)
     (sym (ap (λ (v : Verdict). v .keeps) (judged .judged .ensures)) ∙ not-false _ (c .before .if2 .left)) (c .if3 .taken))
 
 cast-done : tie.Need-cast-done
@@ -43,10 +49,9 @@ done-requires : tie.Need-done-requires
 done-requires c κs =
     let judged = c .before .before .before .before .before .before .before .before in
     let start = judged .before .before .before .before .before .before .before .before .before in
-    let a = start .args in
     let is = ap (λ (v : Verdict). v .machine) (judged .judged .ensures) in
     let keeps = sym (ap (λ (v : Verdict). v .keeps) (judged .judged .ensures)) ∙ not-false _ (c .before .before .before .before .before .before .if2 .left) in
-    (is, (judged .before .before .if1 .left, fits-run (a .execution .now) (a .bootstrap .now) (a .ram .now) (a .paper .now) (a .journal .now) (a .image .now) (start .pre) keeps is))
+    (is, (judged .before .before .if1 .left, fits-run (lent start) (start .pre) keeps is))
 
 same-length-3 : tie.Need-same-length-3
 same-length-3 c = search needs
@@ -64,9 +69,9 @@ returns-4 : tie.Need-returns-4
 returns-4 c =
     let ran = c .before .before .before .before .before .before .before .before in
     let judged = ran .before .before .before .before .before .before .before .before .before in
-    let a = judged .before .before .before .before .before .before .before .before .before .args in
+    let start = judged .before .before .before .before .before .before .before .before .before in
     let keeps = sym (ap (λ (v : Verdict). v .keeps) (judged .judged .ensures)) ∙ not-false _ (ran .before .before .before .before .before .before .before .if2 .left) in
-    rw (all-passed (a .image .now) (length (a .paper .now)) (length (a .journal .now)) (a .budget) (judged .before .before .if1 .left) keeps (ran .before .before .before .before .before .before .if3 .left)) (ran .done .ensures)
+    rw (all-passed (lent start) (start .args .budget) (judged .before .before .if1 .left) keeps (ran .before .before .before .before .before .before .if3 .left)) (ran .done .ensures)
 
 pub with-image-spec : {M : Type 1} → statement M
 with-image-spec =

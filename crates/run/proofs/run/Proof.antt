@@ -1,7 +1,7 @@
 -- `run::run` meets its contract: the parts are opened, the loop runs on them, and they are closed again. The lengths of the printers and of the table are in what owning the machine tells.
 use mathlib.Core.Path.{_≡_}
 use lib.ListN.{length, length-map}
-use Rattle.turn.specs.Turn.{buffersOf}
+use Rattle.turn.specs.Buffers.{besideOf}
 use Rattle.run.proofs.Ends.{opened-ready, spun-is}
 use borrow.Author.Needs.{needs}
 use Rattle.run.proofs.run.Statement.{statement}
@@ -20,7 +20,7 @@ spin-requires : tie.Need-spin-requires
 spin-requires c κs =
     let start = c .before .before .before .before .before .before .before .before .before .before .before in
     let a = start .args in
-    opened-ready (a .machine) (eight start) (sixteen start) (buffersOf (a .execution .now) (a .bootstrap .now) (a .ram .now) (a .paper .now) (a .journal .now)) (c .before .before .before .opened .ensures) (start .pre)
+    opened-ready (a .machine) (eight start) (sixteen start) (besideOf (a .execution .now) (a .bootstrap .now) (a .ram .now) (a .paper .now) (a .journal .now)) (c .before .before .before .opened .ensures) (start .pre)
 
 closed-requires : tie.Need-closed-requires
 closed-requires c κs = search needs
@@ -40,8 +40,8 @@ returns c =
     let opened = spun .before .before .before .before in
     let start = opened .before .before .before .before .before .before .before .before in
     let a = start .args in
-    spun-is (a .machine) (eight start) (sixteen start) (buffersOf (a .execution .now) (a .bootstrap .now) (a .ram .now) (a .paper .now) (a .journal .now))
-    (let l = spun .spin .last in buffersOf (a .execution .now) (a .bootstrap .now) (l .1 .1 .1 .1 .0) (l .1 .1 .1 .1 .1 .0) (l .1 .1 .1 .1 .1 .1 .0)) (a .budget) (a .stop)
+    spun-is (a .machine) (eight start) (sixteen start) (besideOf (a .execution .now) (a .bootstrap .now) (a .ram .now) (a .paper .now) (a .journal .now))
+    (let l = spun .spin .last in besideOf (a .execution .now) (a .bootstrap .now) (l .1 .1 .1 .1 .0) (l .1 .1 .1 .1 .1 .0) (l .1 .1 .1 .1 .1 .1 .0)) (a .budget) (a .stop)
     (spun .spin .result) (opened .opened .ensures) (spun .spin .ensures) (c .closed .ensures)
 
 pub run-spec : {M : Type 1} → statement M

@@ -22,7 +22,8 @@ use Rattle.held.proofs.Board.{length-printers}
 use Rattle.step.specs.World.{Roms, romsOf}
 use Rattle.step.specs.Parts.{rowsAfter}
 use Rattle.step.specs.Step.{enters}
-use Rattle.turn.specs.Turn.{Buffers, buffersOf, romsIn, lentFrom, TurnIs}
+use Rattle.turn.specs.Buffers.{Beside, besideOf, romsIn}
+use Rattle.turn.specs.Turn.{lentFrom, TurnIs}
 use Rattle.turn.specs.declared.Parts.{Parts}
 use Rattle.turn.proofs.Steps.{turned-is, partsLeft, decided-fits, still-ready}
 use Rattle.run.specs.Run.{forward}
@@ -45,10 +46,10 @@ Inv-loop settings execution bootstrap ram₀ paper₀ journal₀ budget stop cor
     × (length core ≡ 12)
     × Reached (forward (romsOf execution bootstrap)) (slotsOf journal₀) budget stop
     (configOf (romsOf execution bootstrap) settings (record { core = core₀; held = held₀; regs = regs₀; rows = rows₀; words = words₀; mark = mark₀ })
-    (buffersOf execution bootstrap ram₀ paper₀ journal₀))
+    (besideOf execution bootstrap ram₀ paper₀ journal₀))
     steps
     (configOf (romsOf execution bootstrap) settings (record { core = core; held = held; regs = regs; rows = rows; words = words; mark = mark })
-    (buffersOf execution bootstrap ram paper journal))
+    (besideOf execution bootstrap ram paper journal))
 
 abbrev μ-loop : tie.MeasureT-loop
 μ-loop settings execution bootstrap ram₀ paper₀ journal₀ budget stop core₀ held₀ regs₀ rows₀ words₀ mark₀ steps₀ ram paper journal core held regs rows words mark steps = budget - steps
@@ -84,10 +85,10 @@ entry h = h .before .before .before .before .before .before .before .before .bef
 abbrev partsAt : Head → Parts
 partsAt h = let l = h .loop in record { core = l .core; held = l .held; regs = l .regs; rows = l .rows; words = l .words; mark = l .mark }
 
-abbrev buffersAt : Head → Buffers
-buffersAt h = let a = entry h .args in buffersOf (a .execution .now) (a .bootstrap .now) (h .loop .ram) (h .loop .paper) (h .loop .journal)
+abbrev besideAt : Head → Beside
+besideAt h = let a = entry h .args in besideOf (a .execution .now) (a .bootstrap .now) (h .loop .ram) (h .loop .paper) (h .loop .journal)
 
-whole-at : (h : Head) → Whole (lentFrom (buffersAt h))
+whole-at : (h : Head) → Whole (lentFrom (besideAt h))
 whole-at h = turns.still-whole (h .loop .inv .1) (entry h .pre .whole)
 
 within-at : (d : tie.After-decide Inv-loop μ-loop) → Within (length (d .before .before .before .before .before .before .before .before .before .before .before .before .before .before .before .loop .ram)) 16 (d .decide .result .effect)
@@ -108,25 +109,25 @@ module _ (c : After) where
   d = decided c .decide .result
 
   abbrev roms : Roms
-  roms = romsIn (buffersAt h)
+  roms = romsIn (besideAt h)
 
   abbrev from : Config (forward roms)
-  from = configOf roms (a .args .settings) (a .args .parts) (buffersOf (a .args .execution .now) (a .args .bootstrap .now) (a .args .ram .now) (a .args .paper .now) (a .args .journal .now))
+  from = configOf roms (a .args .settings) (a .args .parts) (besideOf (a .args .execution .now) (a .args .bootstrap .now) (a .args .ram .now) (a .args .paper .now) (a .args .journal .now))
 
   abbrev partsThen : Parts
   partsThen = let f = finished c .finish in partsLeft (partsAt h) d (f .result) (f .last .0) (f .last .1 .1 .1 .0) (f .last .1 .1 .1 .1 .1 .1 .0)
 
-  abbrev buffersThen : Buffers
-  buffersThen =
+  abbrev besideThen : Beside
+  besideThen =
       let f = finished c .finish in
-      buffersOf (a .args .execution .now) (a .args .bootstrap .now) (f .last .1 .1 .1 .1 .1 .1 .1 .1 .1 .0) (started c .start .last .1 .1 .1 .1 .0) (f .last .1 .1 .1 .1 .1 .1 .1 .1 .1 .1 .0)
+      besideOf (a .args .execution .now) (a .args .bootstrap .now) (f .last .1 .1 .1 .1 .1 .1 .1 .1 .1 .0) (started c .start .last .1 .1 .1 .1 .0) (f .last .1 .1 .1 .1 .1 .1 .1 .1 .1 .1 .0)
 
-  turn-is : TurnIs (a .args .settings) (partsAt h) (buffersAt h) (d .effect) partsThen buffersThen
+  turn-is : TurnIs (a .args .settings) (partsAt h) (besideAt h) (d .effect) partsThen besideThen
   turn-is =
-      turned-is (a .args .settings) (partsAt h) (buffersAt h) (whole-at h) (h .loop .inv .5) (h .loop .inv .6) (started c .start .ensures .0) (started c .start .ensures .1)
+      turned-is (a .args .settings) (partsAt h) (besideAt h) (whole-at h) (h .loop .inv .5) (h .loop .inv .6) (started c .start .ensures .0) (started c .start .ensures .1)
       (read c .core-in .ensures) (decided c .decide .ensures) (asked c .old-row .ensures) (finished c .finish .ensures .0) (finished c .finish .ensures .1)
 
-  journal-long : length (buffersThen .journal) ≡ length (h .loop .journal)
+  journal-long : length (besideThen .journal) ≡ length (h .loop .journal)
   journal-long = finished c .finish .kept .1 .1 .1 .1 .1 .1 .1 .1 .1 .1 .0 ∙ started c .start .kept .1 .1 .1 .1 .1 .0
 
   same : slotsOf (h .loop .journal) ≡ slotsOf (a .args .journal .now)
@@ -134,7 +135,7 @@ module _ (c : After) where
 
   module _ {e : Effect} (told : d .effect ≡ e) (rows : List Row) (put : rowsAfter e (h .loop .rows) ≡ rows) (long : length rows ≡ 16) where
     abbrev there : Config (forward roms)
-    there = configOf roms (a .args .settings) (turns.withRows rows partsThen) buffersThen
+    there = configOf roms (a .args .settings) (turns.withRows rows partsThen) besideThen
 
     left-rows : partsThen .rows ≡ rows
     left-rows = ap (λ (x : Effect). rowsAfter x (h .loop .rows)) told ∙ put
@@ -142,11 +143,11 @@ module _ (c : After) where
     abbrev Onward : Type 0
     Onward =
         (h .loop .steps + 1 ≤ a .args .budget)
-        × (length (buffersThen .ram) ≡ length (a .args .ram .now))
-        × (length (buffersThen .paper) ≡ length (a .args .paper .now))
-        × (length (buffersThen .journal) ≡ length (a .args .journal .now))
+        × (length (besideThen .ram) ≡ length (a .args .ram .now))
+        × (length (besideThen .paper) ≡ length (a .args .paper .now))
+        × (length (besideThen .journal) ≡ length (a .args .journal .now))
         × Told (partsThen .held) (partsThen .words)
-        × slots.Ready (buffersThen .journal) (partsThen .mark)
+        × slots.Ready (besideThen .journal) (partsThen .mark)
         × (length rows ≡ 16)
         × (length (partsThen .core) ≡ 12)
         × Reached (forward roms) (slotsOf (a .args .journal .now)) (a .args .budget) (a .args .stop) from (h .loop .steps + 1) there

@@ -1,5 +1,5 @@
 -- `lavushmir_run` meets its contract: the parts of the one equation.
-use Rattle.lavushmir.proofs.Packed.{packed-run}
+use Rattle.lavushmir.proofs.Packed.{packed-is}
 use borrow.Author.Needs.{needs}
 use Rattle.lavushmir.proofs.panel.lavushmir_run.Statement.{statement}
 use Rattle.lavushmir.proofs.panel.lavushmir_run.Tie as tie
@@ -25,7 +25,7 @@ same-length-4 c = search needs
 returns : tie.Need-returns
 returns c =
     let ran = c .before .before .before .before .before .before .before .before .before in
-    packed-run (ran .run .ensures) (c .packed .ensures)
+    packed-is (ran .run .ensures) (c .packed .ensures)
 
 pub lavushmir-run-spec : {M : Type 1} → statement M
 lavushmir-run-spec =

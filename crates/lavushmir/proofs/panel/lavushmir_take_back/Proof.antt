@@ -1,5 +1,5 @@
 -- `lavushmir_take_back` meets its contract: the parts of the one equation.
-use Rattle.lavushmir.proofs.Packed.{packed-back}
+use Rattle.lavushmir.proofs.Packed.{packed-is}
 use borrow.Author.Needs.{needs}
 use Rattle.lavushmir.proofs.panel.lavushmir_take_back.Statement.{statement}
 use Rattle.lavushmir.proofs.panel.lavushmir_take_back.Tie as tie
@@ -22,7 +22,7 @@ same-length-3 c = search needs
 returns : tie.Need-returns
 returns c =
     let took = c .before .before .before .before .before .before .before in
-    packed-back (took .take-back .ensures) (c .packed .ensures)
+    packed-is (took .take-back .ensures) (c .packed .ensures)
 
 pub lavushmir-take-back-spec : {M : Type 1} → statement M
 lavushmir-take-back-spec =
