@@ -3,6 +3,7 @@ use Prim.Native.Nat.{ℕ, _/_, _%_}
 use mathlib.Core.Bool.{Bool, cond, _&&_}
 use lib.Dec.{eqb, leb}
 use Rattle.word.specs.Number.{between}
+use Rattle.word.specs.Sizes.{devices, recordSize}
 use Rattle.board.specs.Rom.{fitOf}
 use Rattle.answer.specs.declared.Refusal.the-variants.{Ram, Rom, Paper, Journal}
 use Rattle.answer.specs.declared.lent.Test.{Test}
@@ -18,11 +19,11 @@ romsFit execution bootstrap = fitOf execution && fitOf bootstrap
 
 -- 3: "paper is over 65,536 bytes or not a multiple of 8 (0 is allowed)"
 abbrev pub paperFits : ℕ → Bool
-paperFits len = leb len 65536 && eqb (len % 8) 0
+paperFits len = leb len 65536 && eqb (len % devices) 0
 
 -- 4: "journal is over 16,777,216 bytes or not a multiple of 256 (0 is allowed)"
 abbrev pub journalFits : ℕ → Bool
-journalFits len = leb len 16777216 && eqb (len % 256) 0
+journalFits len = leb len 16777216 && eqb (len % recordSize) 0
 
 -- the lowest of rows 1 to 4 that applies
 unfoldable pub lentTest : (execution bootstrap ram paper journal : ℕ) → Test

@@ -16,6 +16,7 @@ use answer::lent::journal_fits;
 use answer::lent::paper_fits;
 use answer::lent::ram_fits;
 use rules::judged;
+use state::IMAGE;
 use state::encode::encode;
 use state::machine::Machine;
 
@@ -88,7 +89,7 @@ fn with_image(
         ≡ ruleLeaves (buffersBack (now (image .entry)) (now (ram .entry)) (now (paper .entry)) (now (journal .entry))) steps
         ⌝ }
 {
-    if image.len() != 501 {
+    if image.len() != IMAGE {
         return Answer::Refused(Refusal::Image);
     }
     let verdict = judged(image, paper.len(), journal.len());

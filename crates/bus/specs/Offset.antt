@@ -2,6 +2,7 @@
 use Prim.Native.Nat.{ℕ, _+_, _*_, _-_, _/_, _%_}
 use mathlib.Core.Bool.{Bool}
 use lib.Dec.{leb}
+use Rattle.word.specs.Sizes.{devices}
 
 -- the four registers of a device stand one after another
 abbrev pub offsetOf : ℕ → ℕ → ℕ → ℕ
@@ -14,7 +15,7 @@ abbrev pub lineOf : ℕ → ℕ
 lineOf offset = 3 + (offset - 0x50) / 0x80
 
 abbrev pub numberOf : ℕ → ℕ
-numberOf offset = (offset - 0x50) / 0x10 % 8
+numberOf offset = (offset - 0x50) / 0x10 % devices
 
 abbrev pub fieldOf : ℕ → ℕ
 fieldOf offset = (offset - 0x50) / 4 % 4

@@ -1,6 +1,7 @@
 -- What a store in the device area does: to the printers, to the timer ("a timer write turns IP[2] off"), and to the interrupt lines in Cause.
 use Prim.Native.Nat.{ℕ, _<_}
 use mathlib.Core.Bool.{false}
+use Rattle.word.specs.Sizes.{devices}
 use Rattle.clock.specs.declared.Clock.{Clock}
 use Rattle.cp0.specs.Interrupt.{withLine}
 use Rattle.printer.specs.declared.Line.{Line}
@@ -35,5 +36,5 @@ causeStored s pending cause = shownOf pending (timerLine s cause)
 abbrev pub InLine : Store → Type 0
 InLine Nothing = Unit {0}
 InLine (Timer word) = Unit {0}
-InLine (Command n word) = n < 8
-InLine (Data n word) = n < 8
+InLine (Command n word) = n < devices
+InLine (Data n word) = n < devices

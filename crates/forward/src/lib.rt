@@ -13,6 +13,7 @@ use answer::lent::Test;
 use answer::lent::lent_test;
 use rules::judged;
 use run::Stop;
+use state::IMAGE;
 use state::encode::encode;
 use state::machine::Machine;
 
@@ -82,7 +83,7 @@ fn with_image(
         budget stop
         ⌝ }
 {
-    if image.len() != 501 {
+    if image.len() != IMAGE {
         return Answer::Refused(Refusal::Image);
     }
     let verdict = judged(image, paper.len(), journal.len());

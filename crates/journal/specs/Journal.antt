@@ -7,19 +7,20 @@ use lib.ListN.{length}
 use lib.Seq.{sets}
 use Rattle.word.specs.Lists.{flat}
 use Rattle.word.specs.Little.{toBytes}
+use Rattle.word.specs.Sizes.{recordSize}
 use Rattle.ring.specs.Slots.{Ring, Sound, nextSlot, put}
 use Rattle.record.specs.declared.Record.{Record}
 use Rattle.record.specs.declared.Saved.{Saved}
 use Rattle.record.specs.declared.Saved.the-variants.{Nothing}
-use Rattle.record.specs.Layout.{savedWords, recordBytes}
+use Rattle.record.specs.Layout.{savedWords, savedBase, recordBytes}
 use Rattle.state.specs.declared.machine.Journal.{Journal}
 use Rattle.printer.specs.declared.saved.SavedPaper.{SavedPaper}
 use Rattle.held.specs.Board.{printersIn}
 use Rattle.held.specs.Core.{coreIn}
 
--- journal length / 256
+-- "journal length / 256"
 abbrev pub slotsOf : List ℕ → ℕ
-slotsOf journal = length journal / 256
+slotsOf journal = length journal / recordSize
 
 abbrev pub ringOf : Journal → List ℕ → Ring
 ringOf mark journal = record { bytes = journal; hand = mark .«on_hand»; next = mark .«next_slot» }
@@ -27,7 +28,7 @@ ringOf mark journal = record { bytes = journal; hand = mark .«on_hand»; next =
 -- what rows 4 and 5 leave: at most 16,777,216 bytes, and the two words keep their rule
 pub record Ready (journal : List ℕ) (mark : Journal) : Type 0 where
   pub few : length journal ≤ 16777216
-  pub sound : Sound 256 (slotsOf journal) (ringOf mark journal)
+  pub sound : Sound recordSize (slotsOf journal) (ringOf mark journal)
 
 -- the record of what a run holds, which saves nothing: the core and the printers are held as words
 abbrev pub heldRecord : List ℕ → ℕ → ℕ → SavedPaper → List ℕ → Record
@@ -46,14 +47,14 @@ heldRecord core timer pending paper words =
 -- Before the step: the whole record at the next slot, its saved words only holding their place. Neither word moves, since the record does not count before
 -- it is ended.
 abbrev pub begunOf : Journal → Record → List ℕ → List ℕ
-begunOf mark r journal = cond (eqb (slotsOf journal) 0) journal (put journal (256 * mark .«next_slot») (recordBytes r))
+begunOf mark r journal = cond (eqb (slotsOf journal) 0) journal (put journal (recordSize * mark .«next_slot») (recordBytes r))
 
--- After the decision: the four words of what the step overwrites, which are known only now, at byte 68 of the same slot. Then the record is on hand.
+-- After the decision: the four words of what the step overwrites, which are known only now, at their place in the same slot. Then the record is on hand.
 abbrev pub endedOf : Journal → Saved → List ℕ → Ring
 endedOf mark s journal =
     cond (eqb (slotsOf journal) 0) (ringOf mark journal)
     (record {
-      bytes = sets journal (256 * mark .«next_slot» + 68) (flat (toBytes 4) (savedWords s));
+      bytes = sets journal (recordSize * mark .«next_slot» + 4 * savedBase) (flat (toBytes 4) (savedWords s));
       hand = min (slotsOf journal) (mark .«on_hand» + 1);
       next = nextSlot (slotsOf journal) (mark .«next_slot»);
     })

@@ -3,6 +3,7 @@ use Prim.Native.Nat.{ℕ}
 use mathlib.Core.List.{List, []}
 use lib.ListN.{set}
 use Rattle.word.specs.Lists.{tabulate}
+use Rattle.word.specs.Sizes.{devices}
 use Rattle.clock.specs.declared.Clock.{Clock}
 use Rattle.cp0.specs.declared.registers.Cp0.{Cp0}
 use Rattle.printer.specs.Tick.{noPrinter}
@@ -34,7 +35,7 @@ board =
     record {
       clock = record { high = 0; low = 0; timer = 0xFFFFFFFF };
       settings = record { scale = 1; delay = 1; installed = 0 };
-      line = record { printers = tabulate 8 (λ _. noPrinter); pending = 0 };
+      line = record { printers = tabulate devices (λ _. noPrinter); pending = 0 };
     }
 
 -- RAM's bytes, and what registers 8 and 9 hold

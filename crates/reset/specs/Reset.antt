@@ -7,12 +7,14 @@ use lib.Dec.{eqb}
 use lib.ListN.{length, replicate}
 use Rattle.word.specs.Lists.{tabulate}
 use Rattle.word.specs.Map.{bit}
+use Rattle.word.specs.Sizes.{tableSize, devices}
+use Rattle.cp0.specs.Random.{topEntry}
 use Rattle.printer.specs.declared.Printer.{Printer}
 use Rattle.tlb.specs.Entry.{noRow}
 use Rattle.state.specs.declared.machine.Machine.{Machine}
 use Rattle.state.specs.declared.machine.Cpu.{Cpu}
 use Rattle.state.specs.declared.machine.Board.{Board}
-use Rattle.state.specs.Layout.{bytesOf}
+use Rattle.state.specs.Layout.{imageLength, bytesOf}
 use Rattle.rules.specs.Rules.{rangesKeep}
 use Rattle.answer.specs.declared.Reason.the-variants.{NoReason}
 use Rattle.answer.specs.declared.Refusal.the-variants.{Image, Range}
@@ -38,7 +40,7 @@ resetCpu =
             cp0 =
                 record {
                   index = 0;
-                  random = 15 * 0x100;
+                  random = topEntry * 0x100;
                   «entry_hi» = 0;
                   «entry_lo» = 0;
                   «bad_vaddr» = 0;
@@ -47,7 +49,7 @@ resetCpu =
                   epc = 0;
                 };
           };
-      tlb = replicate 16 noRow;
+      tlb = replicate tableSize noRow;
     }
 
 unfoldable pub resetBoard : ℕ → ℕ → ℕ → Board
@@ -55,7 +57,7 @@ resetBoard scale delay installed =
     record {
       clock = record { high = 0; low = 0; timer = 0xFFFFFFFF };
       settings = record { scale = scale; delay = delay; installed = installed };
-      line = record { printers = tabulate 8 (λ (k : ℕ). freshPrinter (bit k installed)); pending = 0 };
+      line = record { printers = tabulate devices (λ (k : ℕ). freshPrinter (bit k installed)); pending = 0 };
     }
 
 unfoldable pub resetMachine : ℕ → ℕ → ℕ → Machine
@@ -68,10 +70,10 @@ resetMachine scale delay installed =
 
 -- ---- the call
 
--- the lowest number that applies: 5 for the length, 6 for the ranges
+-- the lowest number that applies: 5, "image is not 501 bytes", 6 for the ranges
 abbrev pub resetAnswer : List ℕ → ℕ → ℕ → ℕ → Answer
 resetAnswer image scale delay installed =
-    cond (eqb (length image) 501) (cond (rangesKeep scale delay installed) (Done 0 NoReason) (Refused Range)) (Refused Image)
+    cond (eqb (length image) imageLength) (cond (rangesKeep scale delay installed) (Done 0 NoReason) (Refused Range)) (Refused Image)
 
 -- a refusal writes nothing
 abbrev pub imageAfter : Answer → List ℕ → ℕ → ℕ → ℕ → List ℕ

@@ -12,6 +12,7 @@ use cp0::registers::Cp0;
 use printer::Line;
 use printer::Printer;
 use rules::ranges_keep;
+use state::IMAGE;
 use state::encode::encode;
 use state::machine::Board;
 use state::machine::Core;
@@ -116,7 +117,7 @@ fn reset_machine(scale: u32, delay: u32, installed: u32) -> Machine
 pub fn reset(image: &mut [u8], scale: u64, delay: u64, installed: u64) -> Answer
     ensures { λ r. ⌜ ResetIs (now (image .entry)) scale delay installed r (now (image .exit)) ⌝ }
 {
-    if image.len() != 501 {
+    if image.len() != IMAGE {
         return Answer::Refused(Refusal::Image);
     }
     if !ranges_keep(scale, delay, installed) {

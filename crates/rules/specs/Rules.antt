@@ -9,6 +9,7 @@ use Rattle.word.specs.Map.{bit}
 use Rattle.word.specs.Big.{wordAt}
 use Rattle.word.specs.Mask.{within}
 use Rattle.word.specs.Number.{between}
+use Rattle.word.specs.Sizes.{tableSize, devices, recordSize}
 use Rattle.cp0.specs.declared.registers.Cp0.{Cp0}
 use Rattle.cp0.specs.Written.{statusMask, entryHiMask, entryLoMask}
 use Rattle.cp0.specs.Entry.{excCode}
@@ -18,11 +19,11 @@ use Rattle.tlb.specs.Entry.{noRow}
 use Rattle.printer.specs.Rules.{lineKeeps}
 use Rattle.state.specs.declared.machine.Machine.{Machine}
 use Rattle.state.specs.declared.machine.Journal.{Journal}
-use Rattle.state.specs.Layout.{machineOf}
+use Rattle.state.specs.Layout.{bodyLength, imageLength, machineOf}
 
 -- "length word 497, version 1"
 abbrev pub headerKeeps : List ℕ → Bool
-headerKeeps image = eqb (wordAt image 0) 497 && eqb (getD image 4 0) 1
+headerKeeps image = eqb (wordAt image 0) bodyLength && eqb (getD image 4 0) 1
 
 -- IP[k]
 abbrev pub ip : ℕ → ℕ → Bool
@@ -52,7 +53,7 @@ abbrev pub rowKeeps : List Row → ℕ → Bool
 rowKeeps rows i = let r = getD rows i noRow in entryKeeps (r .high) (r .low)
 
 abbrev pub tlbKeeps : List Row → Bool
-tlbKeeps rows = every 16 (rowKeeps rows)
+tlbKeeps rows = every tableSize (rowKeeps rows)
 
 -- "the ranges of row 6": time scale 1 to 255, printer delay 1 to 65,535, installed map at most 255
 abbrev pub rangesKeep : ℕ → ℕ → ℕ → Bool
@@ -67,15 +68,15 @@ unfoldable pub stateKeeps : Machine → ℕ → Bool
 stateKeeps m paper =
     cp0Keeps (m .cpu .core .cp0) (m .board .line .pending) && tlbKeeps (m .cpu .tlb)
     && rangesKeep (m .board .settings .scale) (m .board .settings .delay) (m .board .settings .installed)
-    && lineKeeps (m .board .settings .installed) (m .board .settings .delay) (paper / 8) (m .board .line)
+    && lineKeeps (m .board .settings .installed) (m .board .settings .delay) (paper / devices) (m .board .line)
 
 unfoldable pub machineKeeps : Machine → ℕ → ℕ → Bool
-machineKeeps m paper journal = stateKeeps m paper && journalKeeps (m .journal) (journal / 256)
+machineKeeps m paper journal = stateKeeps m paper && journalKeeps (m .journal) (journal / recordSize)
 
--- every rule, of an image of 501 bytes
+-- every rule, of an image of the right length
 unfoldable pub keepsRules : List ℕ → ℕ → ℕ → Bool
 keepsRules image paper journal = headerKeeps image && machineKeeps (machineOf image) paper journal
 
--- an image that refusal 5 does not meet
+-- an image that refusal 5 does not meet: "image is not 501 bytes, or .. breaks a rule below"
 abbrev pub goodImage : List ℕ → ℕ → ℕ → Bool
-goodImage image paper journal = eqb (length image) 501 && keepsRules image paper journal
+goodImage image paper journal = eqb (length image) imageLength && keepsRules image paper journal

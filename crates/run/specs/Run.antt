@@ -3,6 +3,7 @@ use Prim.Native.Nat.{ℕ, _≤_}
 use mathlib.Core.Bool.{Bool, false}
 use mathlib.Core.Path.{_≡_}
 use lib.ListN.{length}
+use Rattle.word.specs.Sizes.{recordSize}
 use Rattle.ring.specs.Machine.{Forward}
 use Rattle.ring.specs.Run.{Why, Config, Ran, ended, spent, excepted}
 use Rattle.ring.specs.Run as ring
@@ -26,7 +27,7 @@ forward roms =
       step = stepOf roms;
       stops = raisesOf roms;
       halts = λ w. false;
-      size = 256;
+      size = recordSize;
       note = λ w. recordBytes (noteOf roms w);
     }
 

@@ -4,6 +4,7 @@ use mathlib.Core.Bool.{Bool}
 use mathlib.Core.Path.{_≡_}
 use lib.ListN.{length}
 use Rattle.word.specs.Lists.{flat}
+use Rattle.word.specs.Sizes.{tableSize}
 use Rattle.ring.specs.Run.{Config, ended}
 use Rattle.ring.specs.Run as ring
 use Rattle.journal.specs.Journal.{slotsOf, ringOf}
@@ -46,7 +47,7 @@ configOf roms settings p b = record { state = worldHeld p settings b; ring = rin
 
 pub record Ready (p : Parts) (b : Beside) : Type 0 where
   pub twelve : length (p .core) ≡ 12
-  pub table : length (p .rows) ≡ 16
+  pub table : length (p .rows) ≡ tableSize
   pub told : Told (p .held) (p .words)
   pub whole : Whole (lentFrom b)
   pub short : length (b .paper) ≤ 65536

@@ -4,6 +4,7 @@ use mathlib.Core.Bool.{Bool, cond, _&&_}
 use mathlib.Core.List.{List, []}
 use lib.Dec.{leb, ltb}
 use Rattle.word.specs.Lists.{tabulate}
+use Rattle.word.specs.Sizes.{recordSize}
 use Rattle.ring.specs.Slots.{Ring, slot, slotBack}
 use Rattle.journal.specs.Journal.{slotsOf}
 
@@ -22,7 +23,7 @@ recordsIn size n g = tabulate (g .hand) (λ (i : ℕ). slot size (g .bytes) (slo
 
 -- of the journal that is lent
 abbrev pub heldOf : List ℕ → ℕ → ℕ → List (List ℕ)
-heldOf journal hand next = recordsIn 256 (slotsOf journal) (record { bytes = journal; hand = hand; next = next })
+heldOf journal hand next = recordsIn recordSize (slotsOf journal) (record { bytes = journal; hand = hand; next = next })
 
 -- with any two numbers: none where these do not fit it
 abbrev pub recordsOf : List ℕ → ℕ → ℕ → List (List ℕ)
@@ -30,4 +31,4 @@ recordsOf journal hand next = cond (fitsIn journal hand next) (heldOf journal ha
 
 -- the record of the k-th newest step, counted from 1
 abbrev pub kthOf : List ℕ → ℕ → ℕ → List ℕ
-kthOf journal next k = slot 256 journal (slotBack (slotsOf journal) next k)
+kthOf journal next k = slot recordSize journal (slotBack (slotsOf journal) next k)

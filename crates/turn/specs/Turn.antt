@@ -3,6 +3,7 @@ use Prim.Native.Nat.{ℕ, _≤_}
 use mathlib.Core.Path.{_≡_}
 use mathlib.Core.List.{List}
 use lib.ListN.{length}
+use Rattle.word.specs.Sizes.{recordSize}
 use Rattle.ring.specs.Slots.{written}
 use Rattle.record.specs.Layout.{recordBytes}
 use Rattle.journal.specs.Journal.{slotsOf, ringOf, Ready}
@@ -39,6 +40,6 @@ pub record TurnIs (settings : Settings) (p : Parts) (b : Beside) (e : Effect) (p
   pub effect-is : e ≡ effectIn (romsIn b) (worldHeld p settings b)
   pub ring-is :
       ringOf (p′ .mark) (b′ .journal)
-      ≡ written 256 (slotsOf (b .journal)) (recordBytes (noteOf (romsIn b) (worldHeld p settings b))) (ringOf (p .mark) (b .journal))
+      ≡ written recordSize (slotsOf (b .journal)) (recordBytes (noteOf (romsIn b) (worldHeld p settings b))) (ringOf (p .mark) (b .journal))
   pub told : Told (p′ .held) (p′ .words)
   pub twelve : length (p′ .core) ≡ 12

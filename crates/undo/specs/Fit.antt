@@ -8,6 +8,7 @@ use lib.Dec.{leb, ltb}
 use lib.ListN.{getD}
 use Rattle.word.specs.Lists.{every}
 use Rattle.word.specs.Map.{bit}
+use Rattle.word.specs.Sizes.{devices}
 use Rattle.printer.specs.Tick.{noPrinter, placeOf}
 use Rattle.printer.specs.declared.Printer.{Printer}
 use Rattle.state.specs.declared.machine.Machine.{Machine}
@@ -29,10 +30,10 @@ ramPlaceFits (RamWord place old) ram = leb (place + 4) ram
 
 -- the paper place of printer n, if it wrote, for paper of so many bytes
 abbrev pub paperPlaceFits : ℕ → List Printer → ℕ → ℕ → Bool
-paperPlaceFits mask printers paper n = not (bit n mask) || ltb (placeOf (paper / 8) n (getD printers n noPrinter .count)) paper
+paperPlaceFits mask printers paper n = not (bit n mask) || ltb (placeOf (paper / devices) n (getD printers n noPrinter .count)) paper
 
 unfoldable pub paperPlacesFit : ℕ → List Printer → ℕ → Bool
-paperPlacesFit mask printers paper = every 8 (paperPlaceFits mask printers paper)
+paperPlacesFit mask printers paper = every devices (paperPlaceFits mask printers paper)
 
 -- The machine of the image that is given back. Its two journal words are not the record's: taking back keeps their rule whatever the records are, and the rules
 -- without it do not look at them.
