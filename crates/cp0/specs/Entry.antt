@@ -6,11 +6,9 @@ use lib.Dec.{eqb}
 use Rattle.word.specs.Map.{bit}
 use Rattle.word.specs.Mask.{overlaidOf}
 use Rattle.word.specs.Number.{between}
-use Rattle.isa.specs.declared.instr.ControlRegister.the-variants.{Status}
 use Rattle.cp0.specs.declared.registers.Cp0.{Cp0}
 use Rattle.cp0.specs.declared.entry.Exception.{Exception}
-use Rattle.cp0.specs.Registers.{withRegister}
-use Rattle.cp0.specs.Word.{pushedOf, poppedOf}
+use Rattle.cp0.specs.Word.{pushedOf}
 
 -- bits 12-31
 abbrev pub pageMask : ℕ
@@ -55,7 +53,3 @@ enteredOf e pc c =
 -- "PC goes to 0x80 (BEV 0) or 0x1FC00180 (BEV 1); on a TLB miss to 0x0 or 0x1FC00100." BEV is bit 22 of Status.
 unfoldable pub vectorOf : ℕ → Bool → ℕ
 vectorOf status miss = cond miss (cond (bit 22 status) 0x1FC00100 0x0) (cond (bit 22 status) 0x1FC00180 0x80)
-
--- "RFE moves previous to current and old to previous in both stacks; old stays."
-unfoldable pub returnedOf : Cp0 → Cp0
-returnedOf c = withRegister Status (poppedOf (record { word = c .status }) .word) c

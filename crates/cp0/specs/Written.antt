@@ -33,5 +33,7 @@ maskOf Random = 0
 maskOf BadVAddr = 0
 maskOf Epc = 0
 
+-- ---- aids to proofs: nothing that a reader must believe
+
 unfoldable pub writtenOf : ControlRegister → ℕ → Cp0 → Cp0
 writtenOf r word c = withRegister r (overlaidOf (maskOf r) (readOf r c) word) c

@@ -1,7 +1,7 @@
-// Exception entry and RFE: what becomes of CP0, and where PC goes.
+// Exception entry: what becomes of CP0, and where PC goes.
 ghost use mathlib.Core.Path.{_≡_};
 ghost use Rattle.word.specs.Number.{between};
-ghost use Rattle.cp0.specs.Entry.{entryHiOf, badVAddrOf, causeOf, enteredOf, vectorOf, returnedOf};
+ghost use Rattle.cp0.specs.Entry.{entryHiOf, badVAddrOf, causeOf, enteredOf, vectorOf};
 use crate::registers::Cp0;
 use crate::status::Status;
 use word::map::has_bit;
@@ -89,15 +89,4 @@ pub fn vector(status: u32, miss: bool) -> u32
         return 0x1FC00180;
     }
     0x80
-}
-
-// RFE.
-pub fn returned(c: Cp0) -> Cp0
-    ensures { λ r. ⌜ r ≡ returnedOf c ⌝ }
-{
-    let status = Status { word: c.status };
-    let popped = status.popped();
-    let mut after = c;
-    after.status = popped.word;
-    after
 }

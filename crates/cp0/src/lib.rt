@@ -1,5 +1,5 @@
 // Coprocessor 0: its registers and what reads, writes and moves them. The translation table is not here.
-pub mod entry; // exception entry, its vector, and RFE
+pub mod entry; // exception entry, and its vector
 pub mod interrupt; // IP and IM: whether a step is interrupt entry, and a line turned on or off
 pub mod privilege; // KUc, VMc and CU[0]
 pub mod random; // Random's move in each step

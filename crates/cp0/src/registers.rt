@@ -1,6 +1,5 @@
-// The eight registers of CP0, and what MFC0, MTC0, TLBR and TLBP do to them.
+// The eight registers of CP0, and what MFC0, MTC0 and TLBR do to them.
 ghost use mathlib.Core.Path.{_≡_};
-ghost use Rattle.isa.specs.declared.instr.ControlRegister.the-variants.{Index};
 ghost use Rattle.cp0.specs.Registers.{readOf, withRegister, withEntry};
 ghost use Rattle.cp0.specs.Written.{maskOf, writtenOf};
 use isa::instr::ControlRegister;
@@ -82,13 +81,5 @@ pub fn with_entry(mut c: Cp0, high: u32, low: u32) -> Cp0
 {
     c.entry_hi = high;
     c.entry_lo = low;
-    c
-}
-
-// TLBP.
-pub fn with_index(mut c: Cp0, index: u32) -> Cp0
-    ensures { λ r. ⌜ r ≡ withRegister Index index c ⌝ }
-{
-    c.index = index;
     c
 }
