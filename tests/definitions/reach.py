@@ -7,7 +7,9 @@ Reads every crates/*/specs/*.antt, follows each name that a definition uses to t
 statements in STATEMENTS on, and compares what is reached with README's table "Reading the definitions". It fails on
   - a file with a definition that is reached, to which no row leads (a reader would not find what must be believed);
   - a row that names a definition that is not reached (idle), or names none;
-  - a statement that is nowhere.
+  - a statement that is nowhere;
+  - a definition that is reached and stands below the line AIDS of its file, or is not reached and stands above it: what must be
+    believed stands apart from aids to the proofs of the code.
 ROOT is the repository.
 """
 import os
@@ -17,9 +19,15 @@ import sys
 # What the public calls and the theorems over them state. Everything that a reader must believe is reached from here.
 STATEMENTS = [
     "runLeaves", "backLeaves", "resetAnswer", "resetImage", "romAnswer", "windowOf", "packedOf",
-    "Booted", "calledAll", "TakesBack", "marked",
+    "ResetIs", "buffersOf", "buffersBack", "PackedResetIs", "PackedIs",
+    "Booted", "demand3.calledAll", "TakesBack", "marked",
     "Claim", "EachClaim", "RunClaim",
+    "lastChangeOf", "newestAtOf", "oldestAtOf", "Tells", "pcsAgo", "agoIn",
+    "isa.encodeOf", "isa.Proper",
 ]
+
+# Below this line a file has aids to the proofs of the code. A file of nothing else begins with it.
+AIDS = "-- ---- aids to proofs: nothing that a reader must believe"
 
 NAME = r"[^\s(){}\[\],.;:=`\"]+"
 HEAD = re.compile(r"^\s*(?:(?:abbrev|unfoldable|opaque)\s+)?pub\s+(" + NAME + r")\s+:\s")
@@ -37,6 +45,7 @@ class Module:
         self.brought = {}  # local name -> (module key, name there)
         self.nicknames = {}  # local name of a module -> module key
         self.texts = {}
+        self.aids = set()  # the definitions below the line AIDS
         self.read()
 
     def key_of(self, path):
@@ -46,7 +55,9 @@ class Module:
 
     def read(self):
         current, deep, whole = None, 0, False  # the definition at hand, its indent, and whether it is a type, whose fields are part of it
+        below = False
         for line in open(self.path, encoding="utf-8"):
+            below = below or line.rstrip("\n") == AIDS
             line = re.sub(r"(^|\s)--.*$", "", line.rstrip("\n"))
             if not line.strip() or self.brings(line):
                 continue
@@ -56,6 +67,8 @@ class Module:
             if head:
                 current, deep, whole = head.group(1), indent, head.re is TYPE
                 self.texts.setdefault(current, "")
+                if below:
+                    self.aids.add(current)
             elif line.startswith("module "):
                 current, whole = None, False
             if current:
@@ -102,8 +115,8 @@ def used_by(module, name, modules):
 
 
 def reached_from(statements, modules):
-    todo = [(key, name) for key, module in modules.items() for name in module.texts if name in statements]
-    missing = set(statements) - {name for _, name in todo}
+    todo = [(key, name) for key, module in modules.items() for name in module.texts if {name, f"{key[0]}.{name}"} & set(statements)]
+    missing = {s for s in statements if not any(s in (name, f"{key[0]}.{name}") for key, name in todo)}
     seen = set()
     while todo:
         key, name = todo.pop()
@@ -112,6 +125,15 @@ def reached_from(statements, modules):
         seen.add((key, name))
         todo.extend(used_by(modules[key], name, modules))
     return seen, missing
+
+
+def misplaced_in(modules, reached):
+    """The definitions on the wrong side of the line AIDS, as (crate, file, name, whether it is reached)."""
+    for (crate, file), module in sorted(modules.items()):
+        for name in module.texts:
+            is_reached = (crate, file, name) in reached
+            if is_reached == (name in module.aids):
+                yield crate, file, name, is_reached
 
 
 def rows_of(readme, modules):
@@ -155,10 +177,16 @@ def main():
         print(f"definitions: no row of README's table leads to {crate}/specs/{file}.antt ({names})")
     for crate, file, name in sorted(rows - reached):
         print(f"definitions: README's table has {crate}/specs/{file}.antt {name}, which no statement reaches")
+    misplaced = list(misplaced_in(modules, reached))
+    for crate, file, name, is_reached in misplaced:
+        why = "is reached and stands among the aids" if is_reached else "is not reached and does not stand among the aids"
+        print(f"definitions: {crate}/specs/{file}.antt {name} {why}")
     for line in empty:
         print(f"definitions: this row names no definition: {line[:100]}")
     print(f"definitions: {len(reached)} in {len(files)} files are reached from {len(STATEMENTS)} statements; README's table names {len(rows)}")
-    return 1 if gone or missing or rows - reached or empty else 0
+    aids = sum(len(module.aids) for module in modules.values())
+    print(f"definitions: {aids} aids to proofs stand apart from them")
+    return 1 if gone or missing or rows - reached or empty or misplaced else 0
 
 
 if __name__ == "__main__":

@@ -5,6 +5,8 @@ use Rattle.decide.specs.Lent.{Whole}
 use Rattle.step.specs.World.{World, Roms, lentIn}
 use Rattle.good.specs.Good.{Good}
 
+-- ---- aids to proofs: nothing that a reader must believe
+
 pub record Allowed (roms : Roms) (w : World) : Type 0 where
   pub good : Good w
   pub whole : Whole (lentIn roms w)

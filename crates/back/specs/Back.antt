@@ -32,13 +32,15 @@ both roms =
 abbrev pub noRoms : Roms
 noRoms = romsOf [] []
 
--- what a record is checked against, of the machine of an image with RAM and paper of so many bytes
-abbrev pub viewIn : state.Machine → ℕ → ℕ → View
-viewIn m ram paper = record { cpu = m .cpu; board = m .board; ram = ram; paper = paper }
-
 -- k steps of the machine of an image taken back, with what is lent beside it
 abbrev pub backOf : ℕ → state.Machine → Beside → Took (both noRoms)
 backOf k m b = takeBack (both noRoms) (slotsOf (b .journal)) k (configOf noRoms m b)
+
+-- ---- aids to proofs: nothing that a reader must believe
+
+-- what a record is checked against, of the machine of an image with RAM and paper of so many bytes
+abbrev pub viewIn : state.Machine → ℕ → ℕ → View
+viewIn m ram paper = record { cpu = m .cpu; board = m .board; ram = ram; paper = paper }
 
 abbrev pub howOf : Answer → How
 howOf Done = done

@@ -64,6 +64,8 @@ triedBack b k = tookLeaves k b (backOf k (machineOf (b .image)) (b .beside))
 unfoldable pub backLeaves : Buffers → ℕ → Left
 backLeaves b k = leftBy (backTest b) (triedBack b k) b
 
+-- ---- aids to proofs: nothing that a reader must believe
+
 -- ---- for the code: the call of lengths that are allowed
 
 abbrev pub ruleLeaves : Buffers → ℕ → Left

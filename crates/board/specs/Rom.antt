@@ -20,12 +20,6 @@ heldOf e b a = eqb (a % 4) 0 && (spans executionBase e a || spans bootstrapBase 
 unfoldable pub answerOf : ℕ → ℕ → ℕ → RomAnswer
 answerOf e b a = cond (fitOf e && fitOf b) (cond (heldOf e b a) Done BadAddress) BadRom
 
--- document 01's number of each answer
-abbrev pub numberOf : RomAnswer → ℕ
-numberOf Done = 0
-numberOf BadRom = 2
-numberOf BadAddress = 9
-
 abbrev pub fourAt : List ℕ → ℕ → List ℕ
 fourAt rom at = take 4 (drop at rom)
 
@@ -44,3 +38,11 @@ partOf execution bootstrap a BadAddress = []
 
 abbrev pub windowOf : List ℕ → List ℕ → ℕ → List ℕ
 windowOf execution bootstrap a = partOf execution bootstrap a (answerOf (length execution) (length bootstrap) a)
+
+-- ---- aids to proofs: nothing that a reader must believe
+
+-- document 01's number of each answer
+abbrev pub numberOf : RomAnswer → ℕ
+numberOf Done = 0
+numberOf BadRom = 2
+numberOf BadAddress = 9

@@ -32,6 +32,8 @@ timerLine (Data n word) cause = cause
 abbrev pub causeStored : Store → ℕ → ℕ → ℕ
 causeStored s pending cause = shownOf pending (timerLine s cause)
 
+-- ---- aids to proofs: nothing that a reader must believe
+
 -- the printer that it names is one of the eight
 abbrev pub InLine : Store → Type 0
 InLine Nothing = Unit {0}

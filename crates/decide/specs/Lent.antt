@@ -41,6 +41,8 @@ wordIn lent (Execution at) = around (lent .execution) at
 wordIn lent (Bootstrap at) = around (lent .bootstrap) at
 wordIn lent (Device at) = 0
 
+-- ---- aids to proofs: nothing that a reader must believe
+
 -- the word around a place lies in its area
 abbrev pub Room : Lent → Place → Type 0
 Room lent (Ram at) = at / 4 * 4 + 4 ≤ length (lent .ram)

@@ -10,6 +10,8 @@ use Rattle.decide.specs.Lent.{Lent, Room}
 use Rattle.decide.specs.declared.effect.Effect.{Effect}
 use Rattle.decide.specs.declared.effect.Effect.the-variants.{Nothing, Register, HiLo, Control, Entry, TlbRow, Ram, DeviceLoad, DeviceStore, Raise}
 
+-- ---- aids to proofs: nothing that a reader must believe
+
 abbrev pub Held : Lent → Reached → Type 0
 Held lent (reached.Lands place) = Room lent place
 Held lent (reached.Exception miss code) = Unit {0}

@@ -53,6 +53,8 @@ doneRun b budget stop =
 unfoldable pub runLeaves : Buffers → ℕ → ℕ → Left
 runLeaves b budget stop = leftBy (runTest b budget) (doneRun b budget stop) b
 
+-- ---- aids to proofs: nothing that a reader must believe
+
 -- ---- for the code: the call of lengths that are allowed
 
 abbrev pub imageLeaves : Buffers → ℕ → ℕ → Left

@@ -12,6 +12,8 @@ use Rattle.state.specs.declared.machine.Settings.{Settings}
 use Rattle.state.specs.Layout.{printerFrom}
 use Rattle.held.specs.declared.Held.{Held}
 
+-- ---- aids to proofs: nothing that a reader must believe
+
 abbrev pub printerIn : List ℕ → ℕ → Printer
 printerIn words n = printerFrom (5 * n) (λ (k : ℕ). getD words k 0)
 

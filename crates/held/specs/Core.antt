@@ -5,6 +5,8 @@ use lib.ListN.{getD}
 use Rattle.state.specs.declared.machine.Core.{Core}
 use Rattle.state.specs.Layout.{coreFrom}
 
+-- ---- aids to proofs: nothing that a reader must believe
+
 -- `coreWords` of state read back
 unfoldable pub coreIn : List ℕ → Core
 coreIn words = coreFrom 0 (λ (k : ℕ). getD words k 0)

@@ -12,6 +12,8 @@ use Rattle.printer.specs.declared.Printer.{Printer}
 use Rattle.held.specs.Board.{printerIn, printersIn}
 use Rattle.held.specs.declared.line.Kept.{Kept}
 
+-- ---- aids to proofs: nothing that a reader must believe
+
 abbrev pub lineIn : List ℕ → ℕ → Line
 lineIn words pending = record { printers = printersIn words; pending = pending }
 

@@ -25,6 +25,8 @@ slotsOf journal = length journal / recordSize
 abbrev pub ringOf : Journal → List ℕ → Ring
 ringOf mark journal = record { bytes = journal; hand = mark .«on_hand»; next = mark .«next_slot» }
 
+-- ---- aids to proofs: nothing that a reader must believe
+
 -- what rows 4 and 5 leave: at most 16,777,216 bytes, and the two words keep their rule
 pub record Ready (journal : List ℕ) (mark : Journal) : Type 0 where
   pub few : length journal ≤ 16777216

@@ -43,12 +43,6 @@ infix 70 _is_
 pub data Example : Type 0 where
   _is_ : List ℕ → List ℕ → Example
 
-abbrev pub computed : Example → List ℕ
-computed (c is t) = c
-
-abbrev pub told : Example → List ℕ
-told (c is t) = t
-
 abbrev pub marked : List Example
 marked =
     -- entry, and RFE
@@ -71,3 +65,11 @@ marked =
     -- line 6, printer 2
     ∷ word (deviceBase + offsetOf 6 2 0) is (0x100001F0 ∷ [])
     ∷ []
+
+-- ---- aids to proofs: nothing that a reader must believe
+
+abbrev pub computed : Example → List ℕ
+computed (c is t) = c
+
+abbrev pub told : Example → List ℕ
+told (c is t) = t

@@ -34,12 +34,14 @@ abbrev pub printerKeepsAt : ℕ → ℕ → ℕ → Line → ℕ → Bool
 printerKeepsAt installed delay room line n =
     printerKeeps (bit n installed) (bit n (line .pending)) delay room (getD (line .printers) n noPrinter)
 
+-- the same as a test, which a call makes of a lent image
+unfoldable pub lineKeeps : ℕ → ℕ → ℕ → Line → Bool
+lineKeeps installed delay room line = within installed (line .pending) && every devices (printerKeepsAt installed delay room line)
+
+-- ---- aids to proofs: nothing that a reader must believe
+
 -- "pending within installed", and the rules of each printer
 pub record Keeps (installed delay room : ℕ) (line : Line) : Type 0 where
   pub eight : length (line .printers) ≡ devices
   pub owned : within installed (line .pending) ≡ true
   pub each : (n : ℕ) → n < devices → printerKeepsAt installed delay room line n ≡ true
-
--- the same as a test, which a call makes of a lent image
-unfoldable pub lineKeeps : ℕ → ℕ → ℕ → Line → Bool
-lineKeeps installed delay room line = within installed (line .pending) && every devices (printerKeepsAt installed delay room line)

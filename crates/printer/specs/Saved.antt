@@ -40,6 +40,8 @@ putBack mask bytes printers (suc n) paper =
 abbrev pub restoredPaper : SavedPaper → List Printer → List ℕ → List ℕ
 restoredPaper saved printers paper = putBack (saved .mask) (saved .bytes) printers devices paper
 
+-- ---- aids to proofs: nothing that a reader must believe
+
 -- the layout: a byte has its place within the printer's eighth, or is 0
 abbrev pub byteFits : SavedPaper → List Printer → ℕ → ℕ → Bool
 byteFits saved printers room n =

@@ -67,12 +67,6 @@ paperTicked n p paper = cond (prints (roomOf paper) p) (set paper (placeOf (room
 abbrev pub pendingTicked : ℕ → Printer → ℕ → ℕ
 pendingTicked n p pending = cond (finishes p) (withBit n true pending) pending
 
--- what the tick of printer n gives: the printer, whether it finished, and paper
-pub record OneIs (n : ℕ) (p : Printer) (paper : List ℕ) (one : One) (after : List ℕ) : Type 0 where
-  pub printer-is : one .printer ≡ printerTicked (roomOf paper) p
-  pub finished-is : one .finished ≡ finishes p
-  pub paper-is : after ≡ paperTicked n p paper
-
 -- the tick of printer n
 unfoldable pub tickOne : ℕ → Printing → Printing
 tickOne n s =
@@ -87,6 +81,14 @@ ticks (suc n) s = tickOne n (ticks n s)
 
 abbrev pub tickedOf : Printing → Printing
 tickedOf s = ticks devices s
+
+-- ---- aids to proofs: nothing that a reader must believe
+
+-- what the tick of printer n gives: the printer, whether it finished, and paper
+pub record OneIs (n : ℕ) (p : Printer) (paper : List ℕ) (one : One) (after : List ℕ) : Type 0 where
+  pub printer-is : one .printer ≡ printerTicked (roomOf paper) p
+  pub finished-is : one .finished ≡ finishes p
+  pub paper-is : after ≡ paperTicked n p paper
 
 -- a printer among the first n is busy
 unfoldable pub someBusy : ℕ → List Printer → Bool

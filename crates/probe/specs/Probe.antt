@@ -6,6 +6,8 @@ use mathlib.Core.Path.{_≡_}
 use lib.Dec.{eqb}
 use lib.ListN.{length}
 
+-- ---- aids to proofs: nothing that a reader must believe
+
 abbrev pub flag : Bool → ℕ
 flag b = cond b 1 0
 

@@ -18,6 +18,8 @@ use Rattle.decide.specs.declared.effect.Effect.{Effect}
 use Rattle.decide.specs.declared.effect.Effect.the-variants.{Nothing, Register, HiLo, Control, Entry, TlbRow, Ram, DeviceLoad, DeviceStore, Raise}
 use Rattle.decide.specs.declared.effect.Decision.{Decision}
 
+-- ---- aids to proofs: nothing that a reader must believe
+
 -- `pending` is the printers' map
 pub record ControlGood (c : Cp0) (pending : ℕ) : Type 0 where
   pub words : Below (2 ^ 32) (cp0Words c)

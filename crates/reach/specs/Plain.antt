@@ -7,6 +7,8 @@ use Rattle.board.specs.Places.{ramBase, spans}
 use Rattle.reach.specs.Check.{alignedOf}
 use Rattle.reach.specs.declared.access.Width.{Width}
 
+-- ---- aids to proofs: nothing that a reader must believe
+
 -- ram is RAM's length
 unfoldable pub plainOf : ℕ → Width → ℕ → ℕ → Bool
 plainOf status width ram va = not (bit 24 status) && (alignedOf width va && spans ramBase ram va)

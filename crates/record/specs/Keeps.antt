@@ -41,6 +41,8 @@ wordsKeep word =
 unfoldable pub keepsLayout : List ℕ → Bool
 keepsLayout slot = wordsKeep (slotWord slot)
 
+-- ---- aids to proofs: nothing that a reader must believe
+
 -- ---- the same of a record
 
 abbrev pub savedRanged : Saved → Bool

@@ -60,10 +60,6 @@ unusedBase = printersBase + 5 * devices
 unfoldable pub recordBytes : Record → List ℕ
 recordBytes r = flat (toBytes 4) (layoutOf r)
 
--- what is laid down before a step is decided, of the words that a run holds: it saves nothing yet
-unfoldable pub laidOf : List ℕ → List ℕ → List ℕ → List ℕ
-laidOf core small printers = joined (core ∷ small ∷ savedWords Nothing ∷ printers ∷ unused ∷ [])
-
 -- ---- words as a record: word k is `word k`
 
 abbrev pub paperAt : (ℕ → ℕ) → SavedPaper
@@ -95,3 +91,9 @@ slotWord slot k = loadAt 4 slot (4 * k)
 
 unfoldable pub recordOf : List ℕ → Record
 recordOf slot = recordAt (slotWord slot)
+
+-- ---- aids to proofs: nothing that a reader must believe
+
+-- what is laid down before a step is decided, of the words that a run holds: it saves nothing yet
+unfoldable pub laidOf : List ℕ → List ℕ → List ℕ → List ℕ
+laidOf core small printers = joined (core ∷ small ∷ savedWords Nothing ∷ printers ∷ unused ∷ [])

@@ -38,6 +38,8 @@ configOf roms m b = record { state = worldIn m (b .ram) (b .paper); ring = ringO
 abbrev pub runOf : ℕ → Bool → Machine → (b : Beside) → Ran (forward (romsIn b))
 runOf budget stop m b = let roms = romsIn b in ring.run (forward roms) (slotsOf (b .journal)) budget stop (configOf roms m b)
 
+-- ---- aids to proofs: nothing that a reader must believe
+
 abbrev pub reasonOf : Stop → Why
 reasonOf Budget = spent
 reasonOf Exception = excepted

@@ -23,6 +23,8 @@ use Rattle.turn.specs.declared.Parts.{Parts}
 use Rattle.run.specs.Run.{forward, reasonOf}
 use Rattle.run.specs.declared.Spun.{Spun}
 
+-- ---- aids to proofs: nothing that a reader must believe
+
 abbrev pub partsOf : Machine → Parts
 partsOf m =
     record {

@@ -19,6 +19,15 @@ abbrev pub wordBefore : ℕ → List Write → ℕ → ℕ
 wordBefore place [] word = word
 wordBefore place (w ∷ ws) word = cond (eqb (w .place) place) (w .old) (wordBefore place ws word)
 
+-- THE SCAN, as code does it, with j records passed: it stops at the first, from the newest on, whose word before is not the present one. Up to there the
+-- word of every state passed is the present one, so none is tracked.
+abbrev pub scan : ℕ → ℕ → ℕ → List (List Write) → Sought
+scan place word j [] = Nothing
+scan place word j (s ∷ older) =
+    cond (eqb (wordBefore place s word) word) (scan place word (suc j) older) (At (suc j) (wordBefore place s word) word)
+
+-- ---- aids to proofs: nothing that a reader must believe
+
 -- the word at `place` with the k newest of the steps on hand taken back, from the present word
 abbrev pub wordBack : ℕ → List (List Write) → ℕ → ℕ → ℕ
 wordBack place steps word zero = word
@@ -42,10 +51,3 @@ abbrev pub Answers : ℕ → List (List Write) → ℕ → Sought → Type 0
 Answers place steps word Nothing = (k : ℕ) → k < length steps → Left place steps word k
 Answers place steps word (At zero old new) = ⊥
 Answers place steps word (At (suc k) old new) = Last place steps word k old new
-
--- THE SCAN, as code does it, with j records passed: it stops at the first, from the newest on, whose word before is not the present one. Up to there the
--- word of every state passed is the present one, so none is tracked.
-abbrev pub scan : ℕ → ℕ → ℕ → List (List Write) → Sought
-scan place word j [] = Nothing
-scan place word j (s ∷ older) =
-    cond (eqb (wordBefore place s word) word) (scan place word (suc j) older) (At (suc j) (wordBefore place s word) word)

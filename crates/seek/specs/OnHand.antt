@@ -12,11 +12,6 @@ use Rattle.journal.specs.Journal.{slotsOf}
 abbrev pub fitsIn : List ℕ → ℕ → ℕ → Bool
 fitsIn journal hand next = leb hand (slotsOf journal) && ltb next (slotsOf journal)
 
--- the same as facts
-pub record Fits (journal : List ℕ) (hand next : ℕ) : Type 0 where
-  pub most : hand ≤ slotsOf journal
-  pub place : next < slotsOf journal
-
 -- of a ring of n slots
 abbrev pub recordsIn : ℕ → ℕ → Ring → List (List ℕ)
 recordsIn size n g = tabulate (g .hand) (λ (i : ℕ). slot size (g .bytes) (slotBack n (g .next) (suc i)))
@@ -28,6 +23,13 @@ heldOf journal hand next = recordsIn recordSize (slotsOf journal) (record { byte
 -- with any two numbers: none where these do not fit it
 abbrev pub recordsOf : List ℕ → ℕ → ℕ → List (List ℕ)
 recordsOf journal hand next = cond (fitsIn journal hand next) (heldOf journal hand next) []
+
+-- ---- aids to proofs: nothing that a reader must believe
+
+-- the same as facts
+pub record Fits (journal : List ℕ) (hand next : ℕ) : Type 0 where
+  pub most : hand ≤ slotsOf journal
+  pub place : next < slotsOf journal
 
 -- the record of the k-th newest step, counted from 1
 abbrev pub kthOf : List ℕ → ℕ → ℕ → List ℕ

@@ -19,6 +19,8 @@ abbrev pub oldest : ℕ → List ℕ → ℕ → Place
 oldest pc pcs zero = Nothing
 oldest pc pcs (suc k) = cond (eqb (getD pcs k 0) pc) (At (suc k)) (oldest pc pcs k)
 
+-- ---- aids to proofs: nothing that a reader must believe
+
 -- the newest step but k is at pc, and no newer one is: 0 is the newest
 pub record First (pc : ℕ) (pcs : List ℕ) (k : ℕ) : Type 0 where
   pub within : k < length pcs

@@ -6,6 +6,8 @@ use Rattle.seek.specs.declared.Sought.the-variants as sought
 use Rattle.seek.specs.declared.Place.{Place}
 use Rattle.seek.specs.declared.Place.the-variants.{At, Nothing}
 
+-- ---- aids to proofs: nothing that a reader must believe
+
 abbrev pub placeNumber : Place → ℕ
 placeNumber (At k) = k
 placeNumber Nothing = 0

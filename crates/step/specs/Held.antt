@@ -18,6 +18,8 @@ use Rattle.step.specs.Apply.{boardStored, appliedOf}
 use Rattle.step.specs.Parts.{rowsAfter, boardAfter}
 use Rattle.step.specs.declared.tick.AfterPrinters.{AfterPrinters}
 
+-- ---- aids to proofs: nothing that a reader must believe
+
 pub record PrintedIs (words : List ℕ) (map : ℕ) (paper : List ℕ) (r : AfterPrinters) (words′ paper′ : List ℕ) : Type 0 where
   pub ticked : printing (printersIn words′) (r .pending) paper′ ≡ tickedOf (printing (printersIn words) map paper)
   pub told : r .busy ≡ anyBusy (printersIn words′)

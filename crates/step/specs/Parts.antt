@@ -21,6 +21,8 @@ use Rattle.decide.specs.declared.effect.Effect.the-variants.{Nothing, Register,
 use Rattle.step.specs.Tick.{randomTicked, linesTicked}
 use Rattle.step.specs.Apply.{withHiLo, withCp0, boardStored, linesStored}
 
+-- ---- aids to proofs: nothing that a reader must believe
+
 -- the core after a tick; `pending` is the map after the printers' tick
 abbrev pub coreTicked : Bool → ℕ → Core → Core
 coreTicked rang pending c = withCp0 (linesTicked rang pending (randomTicked (c .cp0))) c

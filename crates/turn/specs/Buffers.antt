@@ -22,9 +22,6 @@ abbrev pub besideOf : (execution bootstrap ram paper journal : List ℕ) → Bes
 besideOf execution bootstrap ram paper journal =
     record { execution = execution; bootstrap = bootstrap; ram = ram; paper = paper; journal = journal }
 
-abbrev pub buffersOf : (image execution bootstrap ram paper journal : List ℕ) → Buffers
-buffersOf image execution bootstrap ram paper journal = record { image = image; beside = besideOf execution bootstrap ram paper journal }
-
 abbrev pub romsIn : Beside → Roms
 romsIn b = romsOf (b .execution) (b .bootstrap)
 
@@ -35,6 +32,9 @@ withRoms roms b = besideOf (roms .execution) (roms .bootstrap) (b .ram) (b .pape
 -- where a run or a take-back led to a world and a ring: no ROM is written
 abbrev pub besideAfter : Beside → World → Ring → Beside
 besideAfter b w g = besideOf (b .execution) (b .bootstrap) (w .ram) (w .paper) (g .bytes)
+
+abbrev pub buffersOf : (image execution bootstrap ram paper journal : List ℕ) → Buffers
+buffersOf image execution bootstrap ram paper journal = record { image = image; beside = besideOf execution bootstrap ram paper journal }
 
 -- ---- "take-back all but the ROMs"
 

@@ -20,6 +20,8 @@ use Rattle.step.specs.Note.{noteOf}
 use Rattle.turn.specs.Buffers.{Beside, romsIn}
 use Rattle.turn.specs.declared.Parts.{Parts}
 
+-- ---- aids to proofs: nothing that a reader must believe
+
 abbrev pub lentFrom : Beside → Lent
 lentFrom b = lentOf (b .execution) (b .bootstrap) (b .ram)
 

@@ -47,6 +47,8 @@ fitOf slot v =
     keepsLayout slot && ramPlaceFits (r .saved) (v .ram) && paperPlacesFit (r .paper .mask) (r .printers) (v .paper)
     && stateKeeps (givenBack r v) (v .paper)
 
+-- ---- aids to proofs: nothing that a reader must believe
+
 -- a record that can be undone: each place that it names is there
 pub record Undoable (r : Record) (ram : ℕ) : Type 0 where
   pub ranged : savedRanged (r .saved) ≡ true

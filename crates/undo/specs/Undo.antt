@@ -64,10 +64,6 @@ undoOf r w =
       paper = restoredPaper (r .paper) (r .printers) (w .paper);
     }
 
--- the same of the machine of an image, which has the journal's two words beside it
-abbrev pub machineBack : Record → Machine → Machine
-machineBack r m = record { cpu = cpuBack r (m .cpu); board = boardBack r (m .board); journal = m .journal }
-
 -- ---- what a record is checked against: the processor, the board, and the lengths of RAM and paper
 
 pub record View : Type 0 where
@@ -81,3 +77,9 @@ viewOf w = record { cpu = w .cpu; board = w .board; ram = length (w .ram); paper
 
 abbrev pub undoView : Record → View → View
 undoView r v = record { cpu = cpuBack r (v .cpu); board = boardBack r (v .board); ram = v .ram; paper = v .paper }
+
+-- ---- aids to proofs: nothing that a reader must believe
+
+-- the same of the machine of an image, which has the journal's two words beside it
+abbrev pub machineBack : Record → Machine → Machine
+machineBack r m = record { cpu = cpuBack r (m .cpu); board = boardBack r (m .board); journal = m .journal }

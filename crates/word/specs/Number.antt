@@ -28,10 +28,12 @@ bits k z = modulo (2 ^ k) z
 abbrev pub extended : ℕ → ℕ → ℕ
 extended k x = bits 32 (signed k (x % 2 ^ k))
 
-abbrev pub withSign : Bool → ℕ → ℤ
-withSign false size = pos size
-withSign true size = negℤ (pos size)
-
 -- - half ≤ z < half: a word of the width holds it
 abbrev pub fits : ℕ → ℤ → Bool
 fits half z = ltZ z (pos half) && leZ (negℤ (pos half)) z
+
+-- ---- aids to proofs: nothing that a reader must believe
+
+abbrev pub withSign : Bool → ℕ → ℤ
+withSign false size = pos size
+withSign true size = negℤ (pos size)
