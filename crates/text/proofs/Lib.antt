@@ -4,4 +4,7 @@ pub mod Values
 pub mod Laying
 pub mod Spelling
 pub mod Numbers
+pub mod Worth
+pub mod Digits
+pub mod Whole
 pub mod RoundTrip

@@ -1,67 +1,63 @@
--- The digits that are written for a number write that number.
-use mathlib.Core.Path.{_≡_, refl, ap, _∙_}
-use mathlib.Core.Bool.{Bool, true, false, cond}
-use lib.Dec.{ltb}
-use borrow.Author.Tests.{lt-ltb, ltb-true}
+-- The round trip: what is written for a number, in decimal or in hexadecimal, is read as that number, up to the byte right behind it.
+use mathlib.Core.Path.{_≡_, refl, ap, sym, _∙_}
 use mathlib.Core.List.{List, [], _∷_, _++_}
-use Prim.Native.Nat.{ℕ, zero, suc, _+_, _*_, _/_, _%_, _<_, _≤_, _^_}
-use native.Mathlib.Nat.{zero-add, pow-zero, pow-suc, div-lt-iff-lt-mul, mod-lt, div-add-mod'}
+use Prim.Native.Nat.{ℕ, suc, _+_, _<_, _≤_, _^_}
+use native.Mathlib.Nat.{add-zero}
 use native.Mathlib.Omega.{arith}
-use Rattle.text.specs.Digit.{digitOf, valueFrom, valueOf}
-use Rattle.text.specs.Spelt.{faceOf, lowOf, decimalIn}
+use mathlib.Core.Bool.{Bool, true, false, cond}
+use borrow.Author.Tests.{ltb-false}
+use lib.Dec.{ltb}
+use lib.ListN.{length}
+use Rattle.text.specs.Number.{answerOf, heldOf, numberOf}
+use Rattle.text.specs.Digit.{valueOf}
+use Rattle.text.specs.Spelt.{lowOf, decimalOf, withinOf, hexOf}
+use Rattle.text.specs.declared.found.Number.the-variants.{Value}
+use Rattle.text.proofs.Values.{held}
+use Rattle.text.proofs.Worth.{low-value, decimal-value}
+use Rattle.text.proofs.Digits.{Digits, decimal-digits, low-digits}
+use Rattle.text.proofs.Whole.{Lead, plain, small, baseOf, leadOf, Ends, number-read}
 
--- a digit's face is worth the digit
-sixteen : (d : ℕ) → d < 16 → digitOf (faceOf d) ≡ d
-unfolding digitOf faceOf
-sixteen zero h = refl
-sixteen (suc zero) h = refl
-sixteen (suc (suc zero)) h = refl
-sixteen (suc (suc (suc zero))) h = refl
-sixteen (suc (suc (suc (suc zero)))) h = refl
-sixteen (suc (suc (suc (suc (suc zero))))) h = refl
-sixteen (suc (suc (suc (suc (suc (suc zero)))))) h = refl
-sixteen (suc (suc (suc (suc (suc (suc (suc zero))))))) h = refl
-sixteen (suc (suc (suc (suc (suc (suc (suc (suc zero)))))))) h = refl
-sixteen (suc (suc (suc (suc (suc (suc (suc (suc (suc zero))))))))) h = refl
-sixteen (suc (suc (suc (suc (suc (suc (suc (suc (suc (suc zero)))))))))) h = refl
-sixteen (suc (suc (suc (suc (suc (suc (suc (suc (suc (suc (suc zero))))))))))) h = refl
-sixteen (suc (suc (suc (suc (suc (suc (suc (suc (suc (suc (suc (suc zero)))))))))))) h = refl
-sixteen (suc (suc (suc (suc (suc (suc (suc (suc (suc (suc (suc (suc (suc zero))))))))))))) h = refl
-sixteen (suc (suc (suc (suc (suc (suc (suc (suc (suc (suc (suc (suc (suc (suc zero)))))))))))))) h = refl
-sixteen (suc (suc (suc (suc (suc (suc (suc (suc (suc (suc (suc (suc (suc (suc (suc zero))))))))))))))) h = refl
-sixteen (suc (suc (suc (suc (suc (suc (suc (suc (suc (suc (suc (suc (suc (suc (suc (suc d)))))))))))))))) h = absurd (omega arith)
+-- the two ways of `put_decimal` and `put_hex`
+pub data Way : Type 0 where
+  decimal : Way
+  hex : (digits : ℕ) → Way
 
-value-append : (base v : ℕ) (s t : List ℕ) → valueFrom base v (s ++ t) ≡ valueFrom base (valueFrom base v s) t
-unfolding valueFrom
-value-append base v [] t = refl
-value-append base v (b ∷ s) t = value-append base (v * base + digitOf b) s t
+abbrev pub writtenOf : Way → ℕ → List ℕ
+writtenOf decimal v = decimalOf v
+writtenOf (hex digits) v = hexOf digits v
 
--- the low digits of a number that has no more write it
-pub low-value : (base : ℕ) → 1 ≤ base → base ≤ 16 → (n v : ℕ) → v < base ^ n → valueOf base (lowOf base n v) ≡ v
-unfolding lowOf valueFrom
-low-value base l h zero v k = omega (arith, pow-zero base)
-low-value base l h (suc n) v k =
-    let small : v / base < base ^ n = div-lt-iff-lt-mul l .1 (rw pow-suc at k) in
-    let digit : v % base < 16 = omega (arith, mod-lt v l) in
-    value-append base 0 (lowOf base n (v / base)) (faceOf (v % base) ∷ [])
-    ∙ ap (λ x. x * base + digitOf (faceOf (v % base))) (low-value base l h n (v / base) small)
-    ∙ ap (λ d. v / base * base + d) (sixteen (v % base) digit)
-    ∙ div-add-mod' v base
+-- so many hexadecimal digits are enough
+abbrev pub Enough : Way → ℕ → Type 0
+Enough decimal v = v < 2 ^ 64
+Enough (hex digits) v = v < 16 ^ withinOf digits
 
--- and so do those of a number in decimal
-pub decimal-value : (n v : ℕ) → v < 10 ^ suc n → valueOf 10 (decimalIn (suc n) v) ≡ v
-unfolding decimalIn valueFrom
-decimal-value zero v k = rw (lt-ltb v 10 k) (zero-add _ ∙ sixteen v (omega arith))
-decimal-value (suc n) v k =
-    let ten : 1 ≤ 10 = omega arith in
-    let small : v / 10 < 10 ^ suc n = div-lt-iff-lt-mul ten .1 (rw pow-suc at k) in
-    go (ltb v 10) refl (decimal-value n (v / 10) small)
+abbrev pub writtenBase : Way → ℕ
+writtenBase decimal = 10
+writtenBase (hex digits) = 16
+
+within-some : (digits : ℕ) → 1 ≤ withinOf digits
+within-some digits = go (ltb digits 1) refl (ltb 16 digits)
   where
-    go : (t : Bool) → ltb v 10 ≡ t → valueOf 10 (decimalIn (suc n) (v / 10)) ≡ v / 10
-        → valueOf 10 (cond t (faceOf v ∷ []) (decimalIn (suc n) (v / 10) ++ faceOf (v % 10) ∷ [])) ≡ v
-    go true e ih = let h : v < 10 = ltb-true v 10 e in zero-add _ ∙ sixteen v (omega arith)
-    go false e ih =
-        value-append 10 0 (decimalIn (suc n) (v / 10)) (faceOf (v % 10) ∷ [])
-        ∙ ap (λ x. x * 10 + digitOf (faceOf (v % 10))) ih
-        ∙ ap (λ d. v / 10 * 10 + d) (sixteen (v % 10) (omega arith))
-        ∙ div-add-mod' v 10
+    go : (t : Bool) → ltb digits 1 ≡ t → (u : Bool) → 1 ≤ cond t 1 (cond u 16 digits)
+    go true e u = omega arith
+    go false e true = omega arith
+    go false e false = ltb-false digits 1 e
+
+module _ (before rest : List ℕ) (v : ℕ) (h : v < 2 ^ 64) where
+  read : (w : Lead) (s : List ℕ) → Digits (baseOf w) s → Ends (baseOf w) rest → valueOf (baseOf w) s ≡ v
+      → numberOf (before ++ (leadOf w ++ (s ++ rest))) (length before) ≡ Value v (length before + length (leadOf w) + length s)
+  read w s d e worth =
+      number-read before s rest w d e
+      ∙ ap (λ x. answerOf (heldOf x) (length before) (length before + length (leadOf w) + length s)) worth
+      ∙ ap (λ t. answerOf t (length before) (length before + length (leadOf w) + length s)) (held v h)
+
+  pub round-trip : (w : Way) → Enough w v → Ends (writtenBase w) rest
+      → numberOf (before ++ (writtenOf w v ++ rest)) (length before) ≡ Value v (length before + length (writtenOf w v))
+  round-trip decimal k e =
+      read plain (decimalOf v) (decimal-digits 19 v) e (decimal-value 19 v (omega arith)) ∙ ap (λ n. Value v (n + length (decimalOf v))) (add-zero (length before))
+  round-trip (hex digits) k e =
+      let one : 1 ≤ 16 = omega arith in
+      let most : 16 ≤ 16 = omega arith in
+      let behind : length before + 2 + length (lowOf 16 (withinOf digits) v) ≡ length before + suc (suc (length (lowOf 16 (withinOf digits) v))) = omega arith in
+      read small (lowOf 16 (withinOf digits) v) (low-digits 16 one most (withinOf digits) v (within-some digits)) e (low-value 16 one most (withinOf digits) v k)
+      ∙ ap (Value v) behind
