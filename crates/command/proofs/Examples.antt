@@ -6,12 +6,12 @@ use Prim.Native.Nat.{ℕ}
 use Rattle.text.specs.Head.{headOf}
 use Rattle.text.specs.Digit.{digitOf, valueFrom}
 use Rattle.text.specs.Number.{digitsOf, digitsAt, isHex, numberOf}
-use Rattle.command.specs.Mark.{standsOf, agreedOf, gapOf, endOf, wordOf, numberIn}
+use Rattle.piece.specs.Mark.{standsOf, agreedOf, gapOf, endOf, wordOf, numberIn}
 use Rattle.command.specs.Form.{betterOf}
 use Rattle.command.specs.Fresh.{settingOf, fileOf, afterExecution, afterPrinters, afterDelay, afterScale, afterJournal, afterPaper, afterRam, makingOf}
 use Rattle.command.specs.Look.{formatOf, unitOf, shapeOf, lookingOf}
-use Rattle.command.specs.Help.{nearerOf, ofMachine, ofStation, helpingOf}
-use Rattle.command.specs.Table.{loadOf, compareOf, runToExceptionOf, stationOf, forwardOf, backwardOf, infosOf, viewsOf, formsOf}
+use Rattle.command.specs.Help.{ofMachine, ofStation, helpingOf}
+use Rattle.command.specs.Table.{loadOf, compareOf, runsOf, stationOf, forwardOf, backwardOf, infosOf, viewsOf, formsOf}
 use Rattle.command.specs.Line.{commandOf}
 use Rattle.command.specs.declared.kinds.Command.{Command}
 use Rattle.command.specs.declared.kinds.Command.the-variants.{Nothing, New, Load, Run, RunToException, Step, Back, Blame, Before, Registers, Tlb, Papers, Paper, Examine, Compare, Abandon, Help, Refused}
@@ -63,5 +63,5 @@ table =
     ∷ []
 
 pub examples : map (λ r. commandOf (r .line)) table ≡ map (λ r. r .command) table
-unfolding row table headOf digitOf valueFrom digitsOf digitsAt isHex numberOf standsOf agreedOf gapOf endOf wordOf numberIn betterOf settingOf fileOf afterExecution afterPrinters afterDelay afterScale afterJournal afterPaper afterRam makingOf formatOf unitOf shapeOf lookingOf nearerOf ofMachine ofStation helpingOf loadOf compareOf runToExceptionOf stationOf forwardOf backwardOf infosOf viewsOf formsOf commandOf
+unfolding row table headOf digitOf valueFrom digitsOf digitsAt isHex numberOf standsOf agreedOf gapOf endOf wordOf numberIn betterOf settingOf fileOf afterExecution afterPrinters afterDelay afterScale afterJournal afterPaper afterRam makingOf formatOf unitOf shapeOf lookingOf ofMachine ofStation helpingOf loadOf compareOf runsOf stationOf forwardOf backwardOf infosOf viewsOf formsOf commandOf
 examples = refl

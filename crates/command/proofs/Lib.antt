@@ -1,5 +1,4 @@
-pub mod Agreed
-pub mod Pieces
+pub mod Best
 pub mod Settings
 pub mod Shapes
 pub mod Lines

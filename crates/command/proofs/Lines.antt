@@ -5,7 +5,7 @@ use mathlib.Core.List.{List}
 use Prim.Native.Nat.{ℕ, _<_, _≤_}
 use borrow.Author.Tests.{le-leb, lt-leb}
 use lib.ListN.{length}
-use Rattle.command.specs.Mark.{standsOf, behindSpaces}
+use Rattle.piece.specs.Mark.{standsOf, behindSpaces}
 use Rattle.command.specs.Table.{formsOf}
 use Rattle.command.specs.Line.{saidOf, startOf, commandOf}
 use Rattle.command.specs.declared.kinds.Command.{Command}

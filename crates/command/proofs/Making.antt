@@ -3,11 +3,11 @@ use mathlib.Core.Path.{_≡_, ap, _∙_}
 use mathlib.Core.List.{List}
 use Prim.Native.Nat.{ℕ}
 use Rattle.command.specs.Words as words
-use Rattle.command.specs.Mark.{endOf, wordOf}
+use Rattle.piece.specs.Mark.{endOf, wordOf}
 use Rattle.command.specs.Fresh.{settingOf, fileOf, madeOf, afterExecution, afterPrinters, afterDelay, afterScale, afterJournal, afterPaper, afterRam, makingOf}
-use Rattle.command.specs.declared.mark.Mark.{Mark}
-use Rattle.command.specs.declared.mark.Count.{Count}
-use Rattle.command.specs.declared.mark.Named.{Named}
+use Rattle.piece.specs.declared.mark.Mark.{Mark}
+use Rattle.piece.specs.declared.mark.Count.{Count}
+use Rattle.piece.specs.declared.mark.Named.{Named}
 use Rattle.command.specs.declared.fresh.Made.{Made}
 
 module _ (line : List ℕ) where

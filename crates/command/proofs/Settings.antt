@@ -3,10 +3,10 @@ use mathlib.Core.Path.{_≡_, ap, sym, _∙_}
 use mathlib.Core.Bool.{true, false, cond}
 use mathlib.Core.List.{List}
 use Prim.Native.Nat.{ℕ}
-use Rattle.command.specs.Mark.{gapOf, wordOf, numberIn}
+use Rattle.piece.specs.Mark.{gapOf, wordOf, numberIn}
 use Rattle.command.specs.Fresh.{settledOf, settingOf}
-use Rattle.command.specs.declared.mark.Mark.{Mark}
-use Rattle.command.specs.declared.mark.Count.{Count}
+use Rattle.piece.specs.declared.mark.Mark.{Mark}
+use Rattle.piece.specs.declared.mark.Count.{Count}
 
 module _ (line : List ℕ) (m : Mark) (word : List ℕ) (or : ℕ) (g t : Mark) (eg : g ≡ gapOf line m) (et : t ≡ wordOf line g word) where
   tried : wordOf line (gapOf line m) word ≡ t

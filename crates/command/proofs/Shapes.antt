@@ -6,12 +6,12 @@ use Prim.Native.Nat.{ℕ}
 use borrow.Author.Tests.{not-true, not-false}
 use Rattle.text.specs.Number.{decimalAt}
 use Rattle.command.specs.Words as words
-use Rattle.command.specs.Mark.{wordOf}
+use Rattle.piece.specs.Mark.{wordOf}
 use Rattle.command.specs.Look.{timesOf, formatOf, unitOf, shapedOf, behindOf, shapeOf}
 use Rattle.command.specs.declared.kinds.Format.the-variants.{Hex}
 use Rattle.command.specs.declared.kinds.Unit.the-variants.{Word}
-use Rattle.command.specs.declared.mark.Mark.{Mark}
-use Rattle.command.specs.declared.mark.Count.{Count}
+use Rattle.piece.specs.declared.mark.Mark.{Mark}
+use Rattle.piece.specs.declared.mark.Count.{Count}
 use Rattle.command.specs.declared.look.Faced.{Faced}
 use Rattle.command.specs.declared.look.Sized.{Sized}
 use Rattle.command.specs.declared.look.Shape.{Shape}

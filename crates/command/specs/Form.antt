@@ -3,10 +3,10 @@ use mathlib.Core.Bool.{cond}
 use mathlib.Core.List.{List, [], _∷_}
 use Prim.Native.Nat.{ℕ}
 use lib.Dec.{ltb}
-use Rattle.command.specs.Mark.{gapOf, endOf, wordOf, numberIn, nameOf}
-use Rattle.command.specs.declared.mark.Mark.{Mark}
-use Rattle.command.specs.declared.mark.Count.{Count}
-use Rattle.command.specs.declared.mark.Named.{Named}
+use Rattle.piece.specs.Mark.{endOf, wordOf}
+use Rattle.piece.specs.Behind.{countedOf}
+use Rattle.piece.specs.declared.mark.Mark.{Mark}
+use Rattle.piece.specs.declared.mark.Count.{Count}
 use Rattle.command.specs.declared.form.Form.{Form}
 use Rattle.command.specs.declared.form.Reading.{Reading}
 
@@ -18,21 +18,9 @@ abbrev pub bestOf : Reading → List Reading → Reading
 bestOf r [] = r
 bestOf r (s ∷ rs) = bestOf (betterOf r s) rs
 
--- a number behind what was read, at the line's end
-abbrev pub countedOf : List ℕ → Mark → Count
-countedOf line m = record { value = numberIn line (gapOf line m) .value; mark = endOf line (numberIn line (gapOf line m) .mark) }
-
--- a name behind what was read
-abbrev pub namedOf : List ℕ → Mark → Named
-namedOf line m = nameOf line (gapOf line m)
-
 -- a word alone
 abbrev pub plainOf : List ℕ → Mark → List ℕ → Form → ℕ → Reading
 plainOf line m first form value = record { mark = endOf line (wordOf line m first); form = form; value = value }
-
--- two words
-abbrev pub pairOf : List ℕ → Mark → (first second : List ℕ) → Form → ℕ → Reading
-pairOf line m first second form value = record { mark = endOf line (wordOf line (gapOf line (wordOf line m first)) second); form = form; value = value }
 
 -- a word and a number
 abbrev pub withNumber : Form → Count → Reading

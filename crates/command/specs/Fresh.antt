@@ -3,11 +3,11 @@ use mathlib.Core.Bool.{cond}
 use mathlib.Core.List.{List}
 use Prim.Native.Nat.{ℕ}
 use Rattle.command.specs.Words as words
-use Rattle.command.specs.Mark.{gapOf, endOf, wordOf, numberIn}
-use Rattle.command.specs.Form.{namedOf}
-use Rattle.command.specs.declared.mark.Mark.{Mark}
-use Rattle.command.specs.declared.mark.Count.{Count}
-use Rattle.command.specs.declared.mark.Named.{Named}
+use Rattle.piece.specs.Mark.{gapOf, endOf, wordOf, numberIn}
+use Rattle.piece.specs.Behind.{namedOf}
+use Rattle.piece.specs.declared.mark.Mark.{Mark}
+use Rattle.piece.specs.declared.mark.Count.{Count}
+use Rattle.piece.specs.declared.mark.Named.{Named}
 use Rattle.command.specs.declared.fresh.Made.{Made}
 
 -- a setting that was tried with the mark `tried`

@@ -1,29 +1,21 @@
 -- The forms of `help`.
-use mathlib.Core.Bool.{cond}
 use mathlib.Core.List.{List, [], _∷_}
 use Prim.Native.Nat.{ℕ}
-use lib.Dec.{ltb}
+use Rattle.piece.specs.Behind.{pastOf}
+use Rattle.piece.specs.declared.mark.Mark.{Mark}
 use Rattle.command.specs.Words as words
-use Rattle.command.specs.Mark.{gapOf, endOf, wordOf}
+use Rattle.command.specs.Form.{bestOf, plainOf}
 use Rattle.command.specs.declared.kinds.Topic.{Topic}
 use Rattle.command.specs.declared.kinds.Topic.the-variants as topic
-use Rattle.command.specs.declared.mark.Mark.{Mark}
-use Rattle.command.specs.declared.help.Asked.{Asked}
+use Rattle.command.specs.declared.form.Form.the-variants.{Help}
+use Rattle.command.specs.declared.form.Reading.{Reading}
 
--- the one that fits; where none does, the one that fits further
-unfoldable pub nearerOf : Asked → Asked → Asked
-nearerOf a b = cond (a .mark .fits) a (cond (b .mark .fits) b (cond (ltb (a .mark .reached) (b .mark .reached)) b a))
+abbrev pub aboutOf : List ℕ → Mark → List ℕ → Topic → Reading
+aboutOf line m second t = plainOf line m second (Help t) 0
 
-abbrev pub nearestOf : Asked → List Asked → Asked
-nearestOf a [] = a
-nearestOf a (b ∷ bs) = nearestOf (nearerOf a b) bs
-
-abbrev pub aboutOf : List ℕ → Mark → List ℕ → Topic → Asked
-aboutOf line m second t = record { mark = endOf line (wordOf line (gapOf line m) second); topic = t }
-
-unfoldable pub ofMachine : List ℕ → Mark → Asked
+unfoldable pub ofMachine : List ℕ → Mark → Reading
 ofMachine line m =
-    nearestOf (aboutOf line m words.load topic.Load)
+    bestOf (aboutOf line m words.load topic.Load)
     (aboutOf line m words.run topic.Run
     ∷ aboutOf line m words.stepi topic.Step
     ∷ aboutOf line m words.back topic.Back
@@ -33,9 +25,9 @@ ofMachine line m =
     ∷ aboutOf line m words.paper topic.Paper
     ∷ [])
 
-unfoldable pub ofStation : List ℕ → Mark → Asked
+unfoldable pub ofStation : List ℕ → Mark → Reading
 ofStation line m =
-    nearestOf (aboutOf line m words.new topic.New)
+    bestOf (aboutOf line m words.new topic.New)
     (aboutOf line m words.x topic.Examine
     ∷ aboutOf line m words.compare topic.Compare
     ∷ aboutOf line m words.save topic.Save
@@ -44,9 +36,7 @@ ofStation line m =
     ∷ aboutOf line m words.abandon topic.Abandon
     ∷ [])
 
--- behind `help`
-abbrev pub helpedOf : List ℕ → Mark → Asked
-helpedOf line help = nearerOf (record { mark = endOf line help; topic = topic.All }) (nearerOf (ofMachine line help) (ofStation line help))
-
-unfoldable pub helpingOf : List ℕ → Mark → Asked
-helpingOf line m = helpedOf line (wordOf line m words.help)
+-- `help` alone, or a word behind it
+unfoldable pub helpingOf : List ℕ → Mark → Reading
+helpingOf line m =
+    bestOf (aboutOf line m words.help topic.All) (ofMachine line (pastOf line m words.help) ∷ ofStation line (pastOf line m words.help) ∷ [])

@@ -1,5 +1,4 @@
 pub mod Words
-pub mod Mark
 pub mod Form
 pub mod Fresh
 pub mod Look

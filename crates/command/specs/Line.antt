@@ -5,18 +5,17 @@ use Prim.Native.Nat.{ℕ}
 use lib.Dec.{leb}
 use lib.ListN.{length}
 use Rattle.command.specs.Words as words
-use Rattle.command.specs.Mark.{standsOf, behindSpaces, wordOf}
-use Rattle.command.specs.Form.{namedOf}
+use Rattle.piece.specs.Mark.{standsOf, behindSpaces, wordOf}
+use Rattle.piece.specs.Behind.{namedOf}
 use Rattle.command.specs.Fresh.{makingOf}
 use Rattle.command.specs.Look.{lookingOf}
-use Rattle.command.specs.Help.{helpingOf}
 use Rattle.command.specs.Table.{formsOf}
 use Rattle.command.specs.declared.kinds.Command.{Command}
 use Rattle.command.specs.declared.kinds.Command.the-variants.{Nothing, Refused}
 use Rattle.command.specs.declared.kinds.Command.the-variants as command
 use Rattle.command.specs.declared.kinds.Span.{Span}
-use Rattle.command.specs.declared.mark.Mark.{Mark}
-use Rattle.command.specs.declared.mark.Named.{Named}
+use Rattle.piece.specs.declared.mark.Mark.{Mark}
+use Rattle.piece.specs.declared.mark.Named.{Named}
 use Rattle.command.specs.declared.form.Form.{Form}
 use Rattle.command.specs.declared.form.Form.the-variants.{New, Load, Compare, Save, Restore, Quit, Abandon, Run, RunToException, Step, Back, Blame, Before, Registers, Cp0, Tlb, Clocks, Printers, Station, Paper, Papers, Examine, Physical, Help}
 use Rattle.command.specs.declared.form.Reading.{Reading}
@@ -53,7 +52,7 @@ askedOf line m Paper v = command.Paper v
 askedOf line m Papers v = command.Papers
 askedOf line m Examine v = command.Examine (lookingOf line m words.x false .look)
 askedOf line m Physical v = command.Examine (lookingOf line m words.xp true .look)
-askedOf line m Help v = command.Help (helpingOf line m .topic)
+askedOf line m (Help t) v = command.Help t
 
 abbrev pub saidOf : List ℕ → Mark → Reading → Command
 saidOf line m r = cond (r .mark .fits) (askedOf line m (r .form) (r .value)) (Refused (r .mark .reached))

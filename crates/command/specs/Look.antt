@@ -6,12 +6,12 @@ use Rattle.text.specs.Number.{decimalAt}
 use Rattle.text.specs.declared.found.Number.{Number}
 use Rattle.text.specs.declared.found.Number.the-variants.{Value, TooLarge, Nothing}
 use Rattle.command.specs.Words as words
-use Rattle.command.specs.Mark.{goesOn, failsAt, wordOf}
-use Rattle.command.specs.Form.{countedOf}
+use Rattle.piece.specs.Mark.{goesOn, failsAt, wordOf}
+use Rattle.piece.specs.Behind.{countedOf}
 use Rattle.command.specs.declared.kinds.Format.the-variants.{Hex, Signed, Unsigned, Character}
 use Rattle.command.specs.declared.kinds.Unit.the-variants.{Byte, Half, Word}
-use Rattle.command.specs.declared.mark.Mark.{Mark}
-use Rattle.command.specs.declared.mark.Count.{Count}
+use Rattle.piece.specs.declared.mark.Mark.{Mark}
+use Rattle.piece.specs.declared.mark.Count.{Count}
 use Rattle.command.specs.declared.look.Seen.{Seen}
 use Rattle.command.specs.declared.look.Shape.{Shape}
 use Rattle.command.specs.declared.look.Faced.{Faced}

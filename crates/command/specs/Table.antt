@@ -3,14 +3,15 @@ use mathlib.Core.Bool.{Bool, true, false}
 use mathlib.Core.List.{List, [], _∷_}
 use Prim.Native.Nat.{ℕ, _-_, _^_}
 use Rattle.command.specs.Words as words
-use Rattle.command.specs.Mark.{gapOf, endOf, wordOf}
-use Rattle.command.specs.Form.{betterOf, bestOf, plainOf, pairOf, numberedOf, withNumber, countedOf, namedOf}
+use Rattle.piece.specs.Mark.{endOf, wordOf}
+use Rattle.piece.specs.Behind.{countedOf, namedOf, pastOf}
+use Rattle.command.specs.Form.{bestOf, plainOf, numberedOf, withNumber}
 use Rattle.command.specs.Fresh.{makingOf}
 use Rattle.command.specs.Look.{lookingOf}
 use Rattle.command.specs.Help.{helpingOf}
 use Rattle.command.specs.declared.form.Form.{Form}
-use Rattle.command.specs.declared.form.Form.the-variants.{New, Load, Compare, Save, Restore, Quit, Abandon, Run, RunToException, Step, Back, Blame, Before, Registers, Cp0, Tlb, Clocks, Printers, Station, Paper, Papers, Examine, Physical, Help}
-use Rattle.command.specs.declared.mark.Mark.{Mark}
+use Rattle.command.specs.declared.form.Form.the-variants.{New, Load, Compare, Save, Restore, Quit, Abandon, Run, RunToException, Step, Back, Blame, Before, Registers, Cp0, Tlb, Clocks, Printers, Station, Paper, Papers, Examine, Physical}
+use Rattle.piece.specs.declared.mark.Mark.{Mark}
 use Rattle.command.specs.declared.form.Reading.{Reading}
 
 -- a form that is only judged here: what it holds is read where it counts
@@ -25,10 +26,6 @@ loadOf line m = withNumber Load (countedOf line (namedOf line (wordOf line m wor
 unfoldable pub compareOf : List ℕ → Mark → Reading
 compareOf line m = judged Compare (endOf line (namedOf line (wordOf line m words.compare) .mark))
 
--- run exception N
-unfoldable pub runToExceptionOf : List ℕ → Mark → Reading
-runToExceptionOf line m = withNumber RunToException (countedOf line (wordOf line (gapOf line (wordOf line m words.run)) words.exception))
-
 unfoldable pub stationOf : List ℕ → Mark → Reading
 stationOf line m =
     bestOf (judged New (makingOf line m .mark))
@@ -40,12 +37,18 @@ stationOf line m =
     ∷ plainOf line m words.abandon Abandon 0
     ∷ [])
 
+-- run N, run exception, run exception N
+unfoldable pub runsOf : List ℕ → Mark → Reading
+runsOf line m =
+    bestOf (numberedOf line m words.run Run)
+    (plainOf line (pastOf line m words.run) words.exception RunToException (2 ^ 64 - 1)
+    ∷ numberedOf line (pastOf line m words.run) words.exception RunToException
+    ∷ [])
+
 unfoldable pub forwardOf : List ℕ → Mark → Reading
 forwardOf line m =
-    bestOf (numberedOf line m words.run Run)
-    (pairOf line m words.run words.exception RunToException (2 ^ 64 - 1)
-    ∷ runToExceptionOf line m
-    ∷ plainOf line m words.stepi Step 1
+    bestOf (runsOf line m)
+    (plainOf line m words.stepi Step 1
     ∷ numberedOf line m words.stepi Step
     ∷ plainOf line m words.si Step 1
     ∷ numberedOf line m words.si Step
@@ -62,19 +65,20 @@ backwardOf line m =
     ∷ numberedOf line m words.before Before
     ∷ [])
 
+-- behind `info`
 unfoldable pub infosOf : List ℕ → Mark → Reading
 infosOf line m =
-    bestOf (pairOf line m words.info words.registers Registers 0)
-    (pairOf line m words.info words.cp0 Cp0 0
-    ∷ pairOf line m words.info words.tlb Tlb 0
-    ∷ pairOf line m words.info words.clocks Clocks 0
-    ∷ pairOf line m words.info words.printers Printers 0
-    ∷ pairOf line m words.info words.station Station 0
+    bestOf (plainOf line m words.registers Registers 0)
+    (plainOf line m words.cp0 Cp0 0
+    ∷ plainOf line m words.tlb Tlb 0
+    ∷ plainOf line m words.clocks Clocks 0
+    ∷ plainOf line m words.printers Printers 0
+    ∷ plainOf line m words.station Station 0
     ∷ [])
 
 unfoldable pub viewsOf : List ℕ → Mark → Reading
 viewsOf line m =
-    bestOf (infosOf line m)
+    bestOf (infosOf line (pastOf line m words.info))
     (plainOf line m words.paper Papers 0
     ∷ numberedOf line m words.paper Paper
     ∷ judged Examine (lookingOf line m words.x false .mark)
@@ -82,4 +86,4 @@ viewsOf line m =
     ∷ [])
 
 unfoldable pub formsOf : List ℕ → Mark → Reading
-formsOf line m = bestOf (stationOf line m) (forwardOf line m ∷ backwardOf line m ∷ viewsOf line m ∷ judged Help (helpingOf line m .mark) ∷ [])
+formsOf line m = bestOf (stationOf line m) (forwardOf line m ∷ backwardOf line m ∷ viewsOf line m ∷ helpingOf line m ∷ [])

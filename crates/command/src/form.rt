@@ -1,14 +1,12 @@
-// The forms that several commands share.
-use crate::mark::Count;
-use crate::mark::Mark;
-use crate::mark::Named;
-use crate::mark::end;
-use crate::mark::gap;
-use crate::mark::name;
-use crate::mark::number;
-use crate::mark::word;
+// The forms that several commands share, and which of two readings of a line counts.
+use crate::kinds::Topic;
+use piece::behind::counted;
+use piece::mark::Mark;
+use piece::mark::end;
+use piece::mark::word;
 ghost use mathlib.Core.Path.{_≡_};
-ghost use Rattle.command.specs.Form.{betterOf, plainOf, pairOf, numberedOf, countedOf, namedOf};
+ghost use mathlib.Core.List.{[], _∷_};
+ghost use Rattle.command.specs.Form.{betterOf, bestOf, plainOf, numberedOf};
 
 // The forms of the language, by what they ask for.
 pub enum Form {
@@ -35,7 +33,7 @@ pub enum Form {
     Papers,
     Examine,
     Physical,
-    Help,
+    Help(Topic),
 }
 
 // A line read by one form: how far the form fits, and the number that it holds where it fits whole.
@@ -69,14 +67,6 @@ pub fn plain(line: &[u8], m: Mark, first: &[u8], form: Form, value: u64) -> Read
     Reading { mark, form, value }
 }
 
-// Two words.
-pub fn pair(line: &[u8], m: Mark, first: &[u8], second: &[u8], form: Form, value: u64) -> Reading
-    ensures { λ r. ⌜ r ≡ pairOf (now (line .entry)) m (now (first .entry)) (now (second .entry)) form value ⌝ }
-{
-    let mark = end(line, word(line, gap(line, word(line, m, first)), second));
-    Reading { mark, form, value }
-}
-
 // A word and a number.
 pub fn numbered(line: &[u8], m: Mark, first: &[u8], form: Form) -> Reading
     ensures { λ r. ⌜ r ≡ numberedOf (now (line .entry)) m (now (first .entry)) form ⌝ }
@@ -90,21 +80,39 @@ pub fn numbered(line: &[u8], m: Mark, first: &[u8], form: Form) -> Reading
     }
 }
 
-// A number behind what was read, at the line's end.
-pub fn counted(line: &[u8], m: Mark) -> Count
-    ensures { λ r. ⌜ r ≡ countedOf (now (line .entry)) m ⌝ }
+// What was read before, or a word alone.
+pub fn or_plain(
+    before: Reading,
+    line: &[u8],
+    m: Mark,
+    first: &[u8],
+    form: Form,
+    value: u64,
+) -> Reading
+    ensures { λ r. ⌜ r ≡ betterOf before (plainOf (now (line .entry)) m (now (first .entry)) form value) ⌝ }
 {
-    let n = number(line, gap(line, m));
-    let mark = end(line, n.mark);
-    Count {
-        value: n.value,
-        mark,
-    }
+    better(before, plain(line, m, first, form, value))
 }
 
-// A name behind what was read.
-pub fn named(line: &[u8], m: Mark) -> Named
-    ensures { λ r. ⌜ r ≡ namedOf (now (line .entry)) m ⌝ }
+// What was read before, or a word and a number.
+pub fn or_numbered(before: Reading, line: &[u8], m: Mark, first: &[u8], form: Form) -> Reading
+    ensures { λ r. ⌜ r ≡ betterOf before (numberedOf (now (line .entry)) m (now (first .entry)) form) ⌝ }
 {
-    name(line, gap(line, m))
+    better(before, numbered(line, m, first, form))
+}
+
+// What was read before, or a word that asks for one, or a word and a number.
+pub fn or_times(before: Reading, line: &[u8], m: Mark, first: &[u8], form: Form) -> Reading
+    ensures { λ r. ⌜ r ≡
+        bestOf before
+        (plainOf (now (line .entry)) m (now (first .entry)) form 1 ∷ numberedOf (now (line .entry)) m (now (first .entry)) form ∷ [])
+        ⌝ }
+{
+    or_numbered(
+        or_plain(before, line, m, first, form, 1),
+        line,
+        m,
+        first,
+        form,
+    )
 }

@@ -1,14 +1,14 @@
 // The form of `new`.
-use crate::form::named;
 use crate::kinds::Fresh;
 use crate::kinds::Span;
-use crate::mark::Count;
-use crate::mark::Mark;
-use crate::mark::Named;
-use crate::mark::end;
-use crate::mark::gap;
-use crate::mark::number;
-use crate::mark::word;
+use piece::behind::named;
+use piece::mark::Count;
+use piece::mark::Mark;
+use piece::mark::Named;
+use piece::mark::end;
+use piece::mark::gap;
+use piece::mark::number;
+use piece::mark::word;
 ghost use mathlib.Core.Path.{_≡_};
 ghost use Rattle.command.specs.Fresh.{makingOf, settingOf, fileOf};
 

@@ -1,6 +1,5 @@
 // A line of the station's language as a command.
 pub mod kinds; // the commands, and what they hold
-pub mod mark; // how far a form fits a line, and the pieces that forms are made of
 pub mod form; // the forms that several commands share
 pub mod fresh; // the form of `new`
 pub mod look; // the forms of `x` and `xp`

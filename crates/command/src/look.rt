@@ -1,13 +1,13 @@
 // The forms of `x` and `xp`.
-use crate::form::counted;
 use crate::kinds::Format;
 use crate::kinds::Look;
 use crate::kinds::Unit;
-use crate::mark::Count;
-use crate::mark::Mark;
-use crate::mark::fails;
-use crate::mark::goes_on;
-use crate::mark::word;
+use piece::behind::counted;
+use piece::mark::Count;
+use piece::mark::Mark;
+use piece::mark::fails;
+use piece::mark::goes_on;
+use piece::mark::word;
 use text::Number;
 ghost use mathlib.Core.Path.{_≡_};
 ghost use Rattle.text.specs.Number.{decimalAt};

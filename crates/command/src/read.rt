@@ -1,22 +1,20 @@
 // A line as a command.
 use crate::form::Form;
 use crate::form::Reading;
-use crate::form::named;
 use crate::fresh::making;
-use crate::help::helping;
 use crate::kinds::Command;
 use crate::kinds::Span;
 use crate::look::looking;
-use crate::mark::Mark;
-use crate::mark::Named;
-use crate::mark::behind_spaces;
-use crate::mark::stands;
-use crate::mark::word;
 use crate::table::forms;
+use piece::behind::named;
+use piece::mark::Mark;
+use piece::mark::Named;
+use piece::mark::behind_spaces;
+use piece::mark::stands;
+use piece::mark::word;
 ghost use mathlib.Core.Path.{_≡_};
 ghost use Rattle.command.specs.Fresh.{makingOf};
 ghost use Rattle.command.specs.Look.{lookingOf};
-ghost use Rattle.command.specs.Help.{helpingOf};
 ghost use Rattle.command.specs.Line.{commandOf, saidOf, askedOf, nameBehind};
 
 pub fn command(line: &[u8]) -> Command
@@ -75,7 +73,7 @@ fn asked(line: &[u8], start: Mark, form: Form, value: u64) -> Command
         Form::Papers => Command::Papers,
         Form::Examine => examine(line, start, b"x", false),
         Form::Physical => examine(line, start, b"xp", true),
-        Form::Help => help(line, start),
+        Form::Help(topic) => Command::Help(topic),
     }
 }
 
@@ -93,14 +91,6 @@ fn examine(line: &[u8], start: Mark, name: &[u8], physical: bool) -> Command
     let seen = looking(line, start, name, physical);
     let look = seen.look;
     Command::Examine(look)
-}
-
-fn help(line: &[u8], start: Mark) -> Command
-    ensures { λ r. ⌜ r ≡ Command.Help (helpingOf (now (line .entry)) start .topic) ⌝ }
-{
-    let asked = helping(line, start);
-    let topic = asked.topic;
-    Command::Help(topic)
 }
 
 fn name_behind(line: &[u8], start: Mark, first: &[u8]) -> Span

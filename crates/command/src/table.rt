@@ -1,24 +1,25 @@
-// The table of all forms, in four parts. Each part answers the best reading among its forms.
+// The table of all forms, in parts. Each part answers the best reading among its forms.
 use crate::form::Form;
 use crate::form::Reading;
 use crate::form::better;
-use crate::form::counted;
-use crate::form::named;
 use crate::form::numbered;
-use crate::form::pair;
+use crate::form::or_numbered;
+use crate::form::or_plain;
+use crate::form::or_times;
 use crate::form::plain;
 use crate::fresh::making;
 use crate::help::helping;
 use crate::look::looking;
-use crate::mark::Mark;
-use crate::mark::end;
-use crate::mark::gap;
-use crate::mark::word;
+use piece::behind::counted;
+use piece::behind::named;
+use piece::behind::past;
+use piece::mark::Mark;
+use piece::mark::end;
+use piece::mark::word;
 ghost use mathlib.Core.Path.{_≡_};
 ghost use Rattle.command.specs.Fresh.{makingOf};
 ghost use Rattle.command.specs.Look.{lookingOf};
-ghost use Rattle.command.specs.Help.{helpingOf};
-ghost use Rattle.command.specs.Table.{judged, formsOf, stationOf, forwardOf, backwardOf, viewsOf, infosOf, loadOf, compareOf, runToExceptionOf};
+ghost use Rattle.command.specs.Table.{judged, formsOf, stationOf, forwardOf, runsOf, backwardOf, viewsOf, infosOf, loadOf, compareOf};
 
 const NO_END: u64 = 0xFFFF_FFFF_FFFF_FFFF;
 
@@ -29,7 +30,7 @@ pub fn forms(line: &[u8], m: Mark) -> Reading
     let r = better(r, forward(line, m));
     let r = better(r, backward(line, m));
     let r = better(r, views(line, m));
-    better(r, help(line, m))
+    better(r, helping(line, m))
 }
 
 // What begins, fills, keeps and ends a station.
@@ -39,58 +40,59 @@ fn station(line: &[u8], m: Mark) -> Reading
     let r = new(line, m);
     let r = better(r, load(line, m));
     let r = better(r, compare(line, m));
-    let r = better(r, plain(line, m, b"save", Form::Save, 0));
-    let r = better(r, plain(line, m, b"restore", Form::Restore, 0));
-    let r = better(r, plain(line, m, b"quit", Form::Quit, 0));
-    better(r, plain(line, m, b"abandon", Form::Abandon, 0))
+    let r = or_plain(r, line, m, b"save", Form::Save, 0);
+    let r = or_plain(r, line, m, b"restore", Form::Restore, 0);
+    let r = or_plain(r, line, m, b"quit", Form::Quit, 0);
+    or_plain(r, line, m, b"abandon", Form::Abandon, 0)
 }
 
 fn forward(line: &[u8], m: Mark) -> Reading
     ensures { λ r. ⌜ r ≡ forwardOf (now (line .entry)) m ⌝ }
 {
+    let r = runs(line, m);
+    let r = or_times(r, line, m, b"stepi", Form::Step);
+    or_times(r, line, m, b"si", Form::Step)
+}
+
+fn runs(line: &[u8], m: Mark) -> Reading
+    ensures { λ r. ⌜ r ≡ runsOf (now (line .entry)) m ⌝ }
+{
     let r = numbered(line, m, b"run", Form::Run);
-    let r = better(
-        r,
-        pair(line, m, b"run", b"exception", Form::RunToException, NO_END),
-    );
-    let r = better(r, run_to_exception(line, m));
-    let r = better(r, plain(line, m, b"stepi", Form::Step, 1));
-    let r = better(r, numbered(line, m, b"stepi", Form::Step));
-    let r = better(r, plain(line, m, b"si", Form::Step, 1));
-    better(r, numbered(line, m, b"si", Form::Step))
+    let behind = past(line, m, b"run");
+    let r = or_plain(r, line, behind, b"exception", Form::RunToException, NO_END);
+    or_numbered(r, line, behind, b"exception", Form::RunToException)
 }
 
 fn backward(line: &[u8], m: Mark) -> Reading
     ensures { λ r. ⌜ r ≡ backwardOf (now (line .entry)) m ⌝ }
 {
     let r = numbered(line, m, b"back", Form::Back);
-    let r = better(r, plain(line, m, b"reverse-stepi", Form::Back, 1));
-    let r = better(r, numbered(line, m, b"reverse-stepi", Form::Back));
-    let r = better(r, plain(line, m, b"rsi", Form::Back, 1));
-    let r = better(r, numbered(line, m, b"rsi", Form::Back));
-    let r = better(r, numbered(line, m, b"blame", Form::Blame));
-    better(r, numbered(line, m, b"before", Form::Before))
+    let r = or_times(r, line, m, b"reverse-stepi", Form::Back);
+    let r = or_times(r, line, m, b"rsi", Form::Back);
+    let r = or_numbered(r, line, m, b"blame", Form::Blame);
+    or_numbered(r, line, m, b"before", Form::Before)
 }
 
 fn views(line: &[u8], m: Mark) -> Reading
     ensures { λ r. ⌜ r ≡ viewsOf (now (line .entry)) m ⌝ }
 {
-    let r = infos(line, m);
-    let r = better(r, plain(line, m, b"paper", Form::Papers, 0));
-    let r = better(r, numbered(line, m, b"paper", Form::Paper));
+    let r = infos(line, past(line, m, b"info"));
+    let r = or_plain(r, line, m, b"paper", Form::Papers, 0);
+    let r = or_numbered(r, line, m, b"paper", Form::Paper);
     let r = better(r, examine(line, m, b"x", false, Form::Examine));
     better(r, examine(line, m, b"xp", true, Form::Physical))
 }
 
+// Behind `info`.
 fn infos(line: &[u8], m: Mark) -> Reading
     ensures { λ r. ⌜ r ≡ infosOf (now (line .entry)) m ⌝ }
 {
-    let r = pair(line, m, b"info", b"registers", Form::Registers, 0);
-    let r = better(r, pair(line, m, b"info", b"cp0", Form::Cp0, 0));
-    let r = better(r, pair(line, m, b"info", b"tlb", Form::Tlb, 0));
-    let r = better(r, pair(line, m, b"info", b"clocks", Form::Clocks, 0));
-    let r = better(r, pair(line, m, b"info", b"printers", Form::Printers, 0));
-    better(r, pair(line, m, b"info", b"station", Form::Station, 0))
+    let r = plain(line, m, b"registers", Form::Registers, 0);
+    let r = or_plain(r, line, m, b"cp0", Form::Cp0, 0);
+    let r = or_plain(r, line, m, b"tlb", Form::Tlb, 0);
+    let r = or_plain(r, line, m, b"clocks", Form::Clocks, 0);
+    let r = or_plain(r, line, m, b"printers", Form::Printers, 0);
+    or_plain(r, line, m, b"station", Form::Station, 0)
 }
 
 // ---- the forms of one command
@@ -131,21 +133,6 @@ fn compare(line: &[u8], m: Mark) -> Reading
     }
 }
 
-fn run_to_exception(line: &[u8], m: Mark) -> Reading
-    ensures { λ r. ⌜ r ≡ runToExceptionOf (now (line .entry)) m ⌝ }
-{
-    let n = counted(
-        line,
-        word(line, gap(line, word(line, m, b"run")), b"exception"),
-    );
-    let mark = n.mark;
-    Reading {
-        mark,
-        form: Form::RunToException,
-        value: n.value,
-    }
-}
-
 fn examine(line: &[u8], m: Mark, name: &[u8], physical: bool, form: Form) -> Reading
     ensures { λ r. ⌜ r ≡ judged form (lookingOf (now (line .entry)) m (now (name .entry)) physical .mark) ⌝ }
 {
@@ -154,18 +141,6 @@ fn examine(line: &[u8], m: Mark, name: &[u8], physical: bool, form: Form) -> Rea
     Reading {
         mark,
         form,
-        value: 0,
-    }
-}
-
-fn help(line: &[u8], m: Mark) -> Reading
-    ensures { λ r. ⌜ r ≡ judged Form.Help (helpingOf (now (line .entry)) m .mark) ⌝ }
-{
-    let asked = helping(line, m);
-    let mark = asked.mark;
-    Reading {
-        mark,
-        form: Form::Help,
         value: 0,
     }
 }

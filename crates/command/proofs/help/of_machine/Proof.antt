@@ -1,107 +1,80 @@
 -- `command::help::of_machine` meets its contract.
 use Rattle.command.specs.Help.{ofMachine}
+use Rattle.command.proofs.Best.{or-else}
 use borrow.Author.Needs.{needs}
 use Rattle.command.proofs.help.of_machine.Statement.{statement}
 use Rattle.command.proofs.help.of_machine.Tie as tie
 
-slice-aggregate-about : tie.Need-slice-aggregate-about
-slice-aggregate-about c = search needs
+slice-aggregate-plain : tie.Need-slice-aggregate-plain
+slice-aggregate-plain c = search needs
 
-about-requires : tie.Need-about-requires
-about-requires c κs = search needs
+plain-requires : tie.Need-plain-requires
+plain-requires c κs = search needs
 
-slice-aggregate-about-2 : tie.Need-slice-aggregate-about-2
-slice-aggregate-about-2 c = search needs
+slice-aggregate-or-plain : tie.Need-slice-aggregate-or-plain
+slice-aggregate-or-plain c = search needs
 
-about-requires-2 : tie.Need-about-requires-2
-about-requires-2 c κs = search needs
+or-plain-requires : tie.Need-or-plain-requires
+or-plain-requires c κs = search needs
 
-nearer-requires : tie.Need-nearer-requires
-nearer-requires c κs = search needs
+slice-aggregate-or-plain-2 : tie.Need-slice-aggregate-or-plain-2
+slice-aggregate-or-plain-2 c = search needs
 
-slice-aggregate-about-3 : tie.Need-slice-aggregate-about-3
-slice-aggregate-about-3 c = search needs
+or-plain-requires-2 : tie.Need-or-plain-requires-2
+or-plain-requires-2 c κs = search needs
 
-about-requires-3 : tie.Need-about-requires-3
-about-requires-3 c κs = search needs
+slice-aggregate-or-plain-3 : tie.Need-slice-aggregate-or-plain-3
+slice-aggregate-or-plain-3 c = search needs
 
-nearer-requires-2 : tie.Need-nearer-requires-2
-nearer-requires-2 c κs = search needs
+or-plain-requires-3 : tie.Need-or-plain-requires-3
+or-plain-requires-3 c κs = search needs
 
-slice-aggregate-about-4 : tie.Need-slice-aggregate-about-4
-slice-aggregate-about-4 c = search needs
+slice-aggregate-or-plain-4 : tie.Need-slice-aggregate-or-plain-4
+slice-aggregate-or-plain-4 c = search needs
 
-about-requires-4 : tie.Need-about-requires-4
-about-requires-4 c κs = search needs
+or-plain-requires-4 : tie.Need-or-plain-requires-4
+or-plain-requires-4 c κs = search needs
 
-nearer-requires-3 : tie.Need-nearer-requires-3
-nearer-requires-3 c κs = search needs
+slice-aggregate-or-plain-5 : tie.Need-slice-aggregate-or-plain-5
+slice-aggregate-or-plain-5 c = search needs
 
-slice-aggregate-about-5 : tie.Need-slice-aggregate-about-5
-slice-aggregate-about-5 c = search needs
+or-plain-requires-5 : tie.Need-or-plain-requires-5
+or-plain-requires-5 c κs = search needs
 
-about-requires-5 : tie.Need-about-requires-5
-about-requires-5 c κs = search needs
+slice-aggregate-or-plain-6 : tie.Need-slice-aggregate-or-plain-6
+slice-aggregate-or-plain-6 c = search needs
 
-nearer-requires-4 : tie.Need-nearer-requires-4
-nearer-requires-4 c κs = search needs
+or-plain-requires-6 : tie.Need-or-plain-requires-6
+or-plain-requires-6 c κs = search needs
 
-slice-aggregate-about-6 : tie.Need-slice-aggregate-about-6
-slice-aggregate-about-6 c = search needs
+slice-aggregate-or-plain-7 : tie.Need-slice-aggregate-or-plain-7
+slice-aggregate-or-plain-7 c = search needs
 
-about-requires-6 : tie.Need-about-requires-6
-about-requires-6 c κs = search needs
-
-nearer-requires-5 : tie.Need-nearer-requires-5
-nearer-requires-5 c κs = search needs
-
-slice-aggregate-about-7 : tie.Need-slice-aggregate-about-7
-slice-aggregate-about-7 c = search needs
-
-about-requires-7 : tie.Need-about-requires-7
-about-requires-7 c κs = search needs
-
-nearer-requires-6 : tie.Need-nearer-requires-6
-nearer-requires-6 c κs = search needs
-
-slice-aggregate-about-8 : tie.Need-slice-aggregate-about-8
-slice-aggregate-about-8 c = search needs
-
-about-requires-8 : tie.Need-about-requires-8
-about-requires-8 c κs = search needs
-
-nearer-requires-7 : tie.Need-nearer-requires-7
-nearer-requires-7 c κs = search needs
+or-plain-requires-7 : tie.Need-or-plain-requires-7
+or-plain-requires-7 c κs = search needs
 
 returns : tie.Need-returns
 unfolding ofMachine
-returns c = rw (c .nearer7 .ensures, c .before .about8 .ensures, c .before .before .before .nearer6 .ensures, c .before .before .before .before .about7 .ensures, c .before .before .before .before .before .before .nearer5 .ensures, c .before .before .before .before .before .before .before .about6 .ensures, c .before .before .before .before .before .before .before .before .before .nearer4 .ensures, c .before .before .before .before .before .before .before .before .before .before .about5 .ensures, c .before .before .before .before .before .before .before .before .before .before .before .before .nearer3 .ensures, c .before .before .before .before .before .before .before .before .before .before .before .before .before .about4 .ensures, c .before .before .before .before .before .before .before .before .before .before .before .before .before .before .before .nearer2 .ensures, c .before .before .before .before .before .before .before .before .before .before .before .before .before .before .before .before .about3 .ensures, c .before .before .before .before .before .before .before .before .before .before .before .before .before .before .before .before .before .before .nearer .ensures, c .before .before .before .before .before .before .before .before .before .before .before .before .before .before .before .before .before .before .before .about2 .ensures, c .before .before .before .before .before .before .before .before .before .before .before .before .before .before .before .before .before .before .before .before .before .about .ensures)
+returns c = or-else _ (c .or-plain7 .ensures) (or-else _ (c .before .before .or-plain6 .ensures) (or-else _ (c .before .before .before .before .or-plain5 .ensures) (or-else _ (c .before .before .before .before .before .before .or-plain4 .ensures) (or-else _ (c .before .before .before .before .before .before .before .before .or-plain3 .ensures) (or-else _ (c .before .before .before .before .before .before .before .before .before .before .or-plain2 .ensures) (or-else _ (c .before .before .before .before .before .before .before .before .before .before .before .before .or-plain .ensures) (c .before .before .before .before .before .before .before .before .before .before .before .before .before .before .plain .ensures)))))))
 
 pub of-machine-spec : {M : Type 1} → statement M
 of-machine-spec =
     tie.close
     (tie.spec
-    slice-aggregate-about
-    about-requires
-    slice-aggregate-about-2
-    about-requires-2
-    nearer-requires
-    slice-aggregate-about-3
-    about-requires-3
-    nearer-requires-2
-    slice-aggregate-about-4
-    about-requires-4
-    nearer-requires-3
-    slice-aggregate-about-5
-    about-requires-5
-    nearer-requires-4
-    slice-aggregate-about-6
-    about-requires-6
-    nearer-requires-5
-    slice-aggregate-about-7
-    about-requires-7
-    nearer-requires-6
-    slice-aggregate-about-8
-    about-requires-8
-    nearer-requires-7
+    slice-aggregate-plain
+    plain-requires
+    slice-aggregate-or-plain
+    or-plain-requires
+    slice-aggregate-or-plain-2
+    or-plain-requires-2
+    slice-aggregate-or-plain-3
+    or-plain-requires-3
+    slice-aggregate-or-plain-4
+    or-plain-requires-4
+    slice-aggregate-or-plain-5
+    or-plain-requires-5
+    slice-aggregate-or-plain-6
+    or-plain-requires-6
+    slice-aggregate-or-plain-7
+    or-plain-requires-7
     returns)

@@ -99,11 +99,8 @@ slice-aggregate-examine-2 c = search needs
 examine-requires-2 : tie.Need-examine-requires-2
 examine-requires-2 c κs = search needs
 
-enum-told-24 : tie.Need-enum-told-24
-enum-told-24 c = search needs
-
-help-requires : tie.Need-help-requires
-help-requires c κs = search needs
+enum-known-form : tie.Need-enum-known-form
+enum-known-form c = search needs
 
 returns : tie.Need-returns
 returns c = rw (c .before .enum-told .given .1) (c .new .ensures)
@@ -175,7 +172,7 @@ returns-23 : tie.Need-returns-23
 returns-23 c = rw (c .before .before .enum-told23 .given .1) (c .examine2 .ensures)
 
 returns-24 : tie.Need-returns-24
-returns-24 c = rw (c .before .enum-told24 .given .1) (c .help .ensures)
+returns-24 c = rw (c .before .form .given .1)
 
 pub asked-spec : {M : Type 1} → statement M
 asked-spec =
@@ -213,8 +210,7 @@ asked-spec =
     enum-told-23
     slice-aggregate-examine-2
     examine-requires-2
-    enum-told-24
-    help-requires
+    enum-known-form
     returns
     returns-2
     returns-3

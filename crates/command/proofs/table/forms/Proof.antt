@@ -1,5 +1,6 @@
 -- `command::table::forms` meets its contract.
 use Rattle.command.specs.Table.{formsOf}
+use Rattle.command.proofs.Best.{or-both}
 use borrow.Author.Needs.{needs}
 use Rattle.command.proofs.table.forms.Statement.{statement}
 use Rattle.command.proofs.table.forms.Tie as tie
@@ -25,15 +26,15 @@ views-requires c κs = search needs
 better-requires-3 : tie.Need-better-requires-3
 better-requires-3 c κs = search needs
 
-help-requires : tie.Need-help-requires
-help-requires c κs = search needs
+helping-requires : tie.Need-helping-requires
+helping-requires c κs = search needs
 
 better-requires-4 : tie.Need-better-requires-4
 better-requires-4 c κs = search needs
 
 returns : tie.Need-returns
 unfolding formsOf
-returns c = rw (c .better4 .ensures, c .before .help .ensures, c .before .before .better3 .ensures, c .before .before .before .views .ensures, c .before .before .before .before .better2 .ensures, c .before .before .before .before .before .backward .ensures, c .before .before .before .before .before .before .better .ensures, c .before .before .before .before .before .before .before .forward .ensures, c .before .before .before .before .before .before .before .before .station .ensures)
+returns c = or-both (c .better4 .ensures) (or-both (c .before .before .better3 .ensures) (or-both (c .before .before .before .before .better2 .ensures) (or-both (c .before .before .before .before .before .before .better .ensures) (c .before .before .before .before .before .before .before .before .station .ensures) (c .before .before .before .before .before .before .before .forward .ensures)) (c .before .before .before .before .before .backward .ensures)) (c .before .before .before .views .ensures)) (c .before .helping .ensures)
 
 pub forms-spec : {M : Type 1} → statement M
 forms-spec =
@@ -46,6 +47,6 @@ forms-spec =
     better-requires-2
     views-requires
     better-requires-3
-    help-requires
+    helping-requires
     better-requires-4
     returns)

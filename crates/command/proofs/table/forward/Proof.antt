@@ -1,95 +1,36 @@
 -- `command::table::forward` meets its contract.
 use Rattle.command.specs.Table.{forwardOf}
+use Rattle.command.proofs.Best.{or-twice}
 use borrow.Author.Needs.{needs}
 use Rattle.command.proofs.table.forward.Statement.{statement}
 use Rattle.command.proofs.table.forward.Tie as tie
 
-slice-aggregate-numbered : tie.Need-slice-aggregate-numbered
-slice-aggregate-numbered c = search needs
+runs-requires : tie.Need-runs-requires
+runs-requires c κs = search needs
 
-numbered-requires : tie.Need-numbered-requires
-numbered-requires c κs = search needs
+slice-aggregate-or-times : tie.Need-slice-aggregate-or-times
+slice-aggregate-or-times c = search needs
 
-slice-aggregate-pair : tie.Need-slice-aggregate-pair
-slice-aggregate-pair c = search needs
+or-times-requires : tie.Need-or-times-requires
+or-times-requires c κs = search needs
 
-slice-aggregate-pair-2 : tie.Need-slice-aggregate-pair-2
-slice-aggregate-pair-2 c = search needs
+slice-aggregate-or-times-2 : tie.Need-slice-aggregate-or-times-2
+slice-aggregate-or-times-2 c = search needs
 
-pair-requires : tie.Need-pair-requires
-pair-requires c κs = search needs
-
-better-requires : tie.Need-better-requires
-better-requires c κs = search needs
-
-run-to-exception-requires : tie.Need-run-to-exception-requires
-run-to-exception-requires c κs = search needs
-
-better-requires-2 : tie.Need-better-requires-2
-better-requires-2 c κs = search needs
-
-slice-aggregate-plain : tie.Need-slice-aggregate-plain
-slice-aggregate-plain c = search needs
-
-plain-requires : tie.Need-plain-requires
-plain-requires c κs = search needs
-
-better-requires-3 : tie.Need-better-requires-3
-better-requires-3 c κs = search needs
-
-slice-aggregate-numbered-2 : tie.Need-slice-aggregate-numbered-2
-slice-aggregate-numbered-2 c = search needs
-
-numbered-requires-2 : tie.Need-numbered-requires-2
-numbered-requires-2 c κs = search needs
-
-better-requires-4 : tie.Need-better-requires-4
-better-requires-4 c κs = search needs
-
-slice-aggregate-plain-2 : tie.Need-slice-aggregate-plain-2
-slice-aggregate-plain-2 c = search needs
-
-plain-requires-2 : tie.Need-plain-requires-2
-plain-requires-2 c κs = search needs
-
-better-requires-5 : tie.Need-better-requires-5
-better-requires-5 c κs = search needs
-
-slice-aggregate-numbered-3 : tie.Need-slice-aggregate-numbered-3
-slice-aggregate-numbered-3 c = search needs
-
-numbered-requires-3 : tie.Need-numbered-requires-3
-numbered-requires-3 c κs = search needs
-
-better-requires-6 : tie.Need-better-requires-6
-better-requires-6 c κs = search needs
+or-times-requires-2 : tie.Need-or-times-requires-2
+or-times-requires-2 c κs = search needs
 
 returns : tie.Need-returns
 unfolding forwardOf
-returns c = rw (c .better6 .ensures, c .before .numbered3 .ensures, c .before .before .before .better5 .ensures, c .before .before .before .before .plain2 .ensures, c .before .before .before .before .before .before .better4 .ensures, c .before .before .before .before .before .before .before .numbered2 .ensures, c .before .before .before .before .before .before .before .before .before .better3 .ensures, c .before .before .before .before .before .before .before .before .before .before .plain .ensures, c .before .before .before .before .before .before .before .before .before .before .before .before .better2 .ensures, c .before .before .before .before .before .before .before .before .before .before .before .before .before .run-to-exception .ensures, c .before .before .before .before .before .before .before .before .before .before .before .before .before .before .better .ensures, c .before .before .before .before .before .before .before .before .before .before .before .before .before .before .before .pair .ensures, c .before .before .before .before .before .before .before .before .before .before .before .before .before .before .before .before .before .before .numbered .ensures)
+returns c = or-twice _ _ (c .or-times2 .ensures) (or-twice _ _ (c .before .before .or-times .ensures) (c .before .before .before .before .runs .ensures))
 
 pub forward-spec : {M : Type 1} → statement M
 forward-spec =
     tie.close
     (tie.spec
-    slice-aggregate-numbered
-    numbered-requires
-    slice-aggregate-pair
-    slice-aggregate-pair-2
-    pair-requires
-    better-requires
-    run-to-exception-requires
-    better-requires-2
-    slice-aggregate-plain
-    plain-requires
-    better-requires-3
-    slice-aggregate-numbered-2
-    numbered-requires-2
-    better-requires-4
-    slice-aggregate-plain-2
-    plain-requires-2
-    better-requires-5
-    slice-aggregate-numbered-3
-    numbered-requires-3
-    better-requires-6
+    runs-requires
+    slice-aggregate-or-times
+    or-times-requires
+    slice-aggregate-or-times-2
+    or-times-requires-2
     returns)

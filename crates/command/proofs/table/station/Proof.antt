@@ -1,5 +1,6 @@
 -- `command::table::station` meets its contract.
 use Rattle.command.specs.Table.{stationOf}
+use Rattle.command.proofs.Best.{or-else, or-both}
 use borrow.Author.Needs.{needs}
 use Rattle.command.proofs.table.station.Statement.{statement}
 use Rattle.command.proofs.table.station.Tie as tie
@@ -19,45 +20,33 @@ compare-requires c κs = search needs
 better-requires-2 : tie.Need-better-requires-2
 better-requires-2 c κs = search needs
 
-slice-aggregate-plain : tie.Need-slice-aggregate-plain
-slice-aggregate-plain c = search needs
+slice-aggregate-or-plain : tie.Need-slice-aggregate-or-plain
+slice-aggregate-or-plain c = search needs
 
-plain-requires : tie.Need-plain-requires
-plain-requires c κs = search needs
+or-plain-requires : tie.Need-or-plain-requires
+or-plain-requires c κs = search needs
 
-better-requires-3 : tie.Need-better-requires-3
-better-requires-3 c κs = search needs
+slice-aggregate-or-plain-2 : tie.Need-slice-aggregate-or-plain-2
+slice-aggregate-or-plain-2 c = search needs
 
-slice-aggregate-plain-2 : tie.Need-slice-aggregate-plain-2
-slice-aggregate-plain-2 c = search needs
+or-plain-requires-2 : tie.Need-or-plain-requires-2
+or-plain-requires-2 c κs = search needs
 
-plain-requires-2 : tie.Need-plain-requires-2
-plain-requires-2 c κs = search needs
+slice-aggregate-or-plain-3 : tie.Need-slice-aggregate-or-plain-3
+slice-aggregate-or-plain-3 c = search needs
 
-better-requires-4 : tie.Need-better-requires-4
-better-requires-4 c κs = search needs
+or-plain-requires-3 : tie.Need-or-plain-requires-3
+or-plain-requires-3 c κs = search needs
 
-slice-aggregate-plain-3 : tie.Need-slice-aggregate-plain-3
-slice-aggregate-plain-3 c = search needs
+slice-aggregate-or-plain-4 : tie.Need-slice-aggregate-or-plain-4
+slice-aggregate-or-plain-4 c = search needs
 
-plain-requires-3 : tie.Need-plain-requires-3
-plain-requires-3 c κs = search needs
-
-better-requires-5 : tie.Need-better-requires-5
-better-requires-5 c κs = search needs
-
-slice-aggregate-plain-4 : tie.Need-slice-aggregate-plain-4
-slice-aggregate-plain-4 c = search needs
-
-plain-requires-4 : tie.Need-plain-requires-4
-plain-requires-4 c κs = search needs
-
-better-requires-6 : tie.Need-better-requires-6
-better-requires-6 c κs = search needs
+or-plain-requires-4 : tie.Need-or-plain-requires-4
+or-plain-requires-4 c κs = search needs
 
 returns : tie.Need-returns
 unfolding stationOf
-returns c = rw (c .better6 .ensures, c .before .plain4 .ensures, c .before .before .before .better5 .ensures, c .before .before .before .before .plain3 .ensures, c .before .before .before .before .before .before .better4 .ensures, c .before .before .before .before .before .before .before .plain2 .ensures, c .before .before .before .before .before .before .before .before .before .better3 .ensures, c .before .before .before .before .before .before .before .before .before .before .plain .ensures, c .before .before .before .before .before .before .before .before .before .before .before .before .better2 .ensures, c .before .before .before .before .before .before .before .before .before .before .before .before .before .compare .ensures, c .before .before .before .before .before .before .before .before .before .before .before .before .before .before .better .ensures, c .before .before .before .before .before .before .before .before .before .before .before .before .before .before .before .load .ensures, c .before .before .before .before .before .before .before .before .before .before .before .before .before .before .before .before .new .ensures)
+returns c = or-else _ (c .or-plain4 .ensures) (or-else _ (c .before .before .or-plain3 .ensures) (or-else _ (c .before .before .before .before .or-plain2 .ensures) (or-else _ (c .before .before .before .before .before .before .or-plain .ensures) (or-both (c .before .before .before .before .before .before .before .before .better2 .ensures) (or-both (c .before .before .before .before .before .before .before .before .before .before .better .ensures) (c .before .before .before .before .before .before .before .before .before .before .before .before .new .ensures) (c .before .before .before .before .before .before .before .before .before .before .before .load .ensures)) (c .before .before .before .before .before .before .before .before .before .compare .ensures)))))
 
 pub station-spec : {M : Type 1} → statement M
 station-spec =
@@ -68,16 +57,12 @@ station-spec =
     better-requires
     compare-requires
     better-requires-2
-    slice-aggregate-plain
-    plain-requires
-    better-requires-3
-    slice-aggregate-plain-2
-    plain-requires-2
-    better-requires-4
-    slice-aggregate-plain-3
-    plain-requires-3
-    better-requires-5
-    slice-aggregate-plain-4
-    plain-requires-4
-    better-requires-6
+    slice-aggregate-or-plain
+    or-plain-requires
+    slice-aggregate-or-plain-2
+    or-plain-requires-2
+    slice-aggregate-or-plain-3
+    or-plain-requires-3
+    slice-aggregate-or-plain-4
+    or-plain-requires-4
     returns)
