@@ -7,17 +7,17 @@ use Rattle.text.specs.Head.{headOf}
 use Rattle.text.specs.Digit.{digitOf, valueFrom}
 use Rattle.text.specs.Number.{digitsOf, digitsAt, isHex, numberOf}
 use Rattle.piece.specs.Mark.{standsOf, agreedOf, gapOf, endOf, wordOf, numberIn}
-use Rattle.command.specs.Form.{betterOf}
-use Rattle.command.specs.Fresh.{settingOf, fileOf, afterExecution, afterPrinters, afterDelay, afterScale, afterJournal, afterPaper, afterRam, makingOf}
-use Rattle.command.specs.Look.{formatOf, unitOf, shapeOf, lookingOf}
+use Rattle.forms.specs.Form.{betterOf}
+use Rattle.forms.specs.Fresh.{settingOf, fileOf, afterExecution, afterPrinters, afterDelay, afterScale, afterJournal, afterPaper, afterRam, makingOf}
+use Rattle.forms.specs.Look.{formatOf, unitOf, shapeOf, lookingOf}
 use Rattle.command.specs.Help.{ofMachine, ofStation, helpingOf}
 use Rattle.command.specs.Table.{loadOf, compareOf, runsOf, stationOf, forwardOf, backwardOf, infosOf, viewsOf, formsOf}
 use Rattle.command.specs.Line.{commandOf}
 use Rattle.command.specs.declared.kinds.Command.{Command}
 use Rattle.command.specs.declared.kinds.Command.the-variants.{Nothing, New, Load, Run, RunToException, Step, Back, Blame, Before, Registers, Tlb, Papers, Paper, Examine, Compare, Abandon, Help, Refused}
-use Rattle.command.specs.declared.kinds.Format.the-variants.{Hex, Signed}
-use Rattle.command.specs.declared.kinds.Unit.the-variants.{Byte, Word}
-use Rattle.command.specs.declared.kinds.Topic.the-variants as topic
+use Rattle.forms.specs.declared.kinds.Format.the-variants.{Hex, Signed}
+use Rattle.forms.specs.declared.kinds.Unit.the-variants.{Byte, Word}
+use Rattle.forms.specs.declared.kinds.Topic.the-variants as topic
 
 pub record Row : Type 0 where
   pub line : List ℕ

@@ -10,7 +10,7 @@ use Rattle.command.specs.Table.{formsOf}
 use Rattle.command.specs.Line.{saidOf, startOf, commandOf}
 use Rattle.command.specs.declared.kinds.Command.{Command}
 use Rattle.command.specs.declared.kinds.Command.the-variants.{Nothing}
-use Rattle.command.specs.declared.form.Reading.{Reading}
+use Rattle.forms.specs.declared.form.Reading.{Reading}
 
 module _ (line : List ℕ) (at : ℕ) (e : at ≡ behindSpaces line 0) where
   pub line-blank : length line ≤ at → Nothing ≡ commandOf line

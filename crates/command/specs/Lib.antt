@@ -1,7 +1,3 @@
-pub mod Words
-pub mod Form
-pub mod Fresh
-pub mod Look
 pub mod Help
 pub mod Table
 pub mod Line

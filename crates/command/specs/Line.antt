@@ -4,21 +4,21 @@ use mathlib.Core.List.{List}
 use Prim.Native.Nat.{ℕ}
 use lib.Dec.{leb}
 use lib.ListN.{length}
-use Rattle.command.specs.Words as words
+use Rattle.forms.specs.Words as words
 use Rattle.piece.specs.Mark.{standsOf, behindSpaces, wordOf}
 use Rattle.piece.specs.Behind.{namedOf}
-use Rattle.command.specs.Fresh.{makingOf}
-use Rattle.command.specs.Look.{lookingOf}
+use Rattle.forms.specs.Fresh.{makingOf}
+use Rattle.forms.specs.Look.{lookingOf}
 use Rattle.command.specs.Table.{formsOf}
 use Rattle.command.specs.declared.kinds.Command.{Command}
 use Rattle.command.specs.declared.kinds.Command.the-variants.{Nothing, Refused}
 use Rattle.command.specs.declared.kinds.Command.the-variants as command
-use Rattle.command.specs.declared.kinds.Span.{Span}
+use Rattle.forms.specs.declared.kinds.Span.{Span}
 use Rattle.piece.specs.declared.mark.Mark.{Mark}
 use Rattle.piece.specs.declared.mark.Named.{Named}
-use Rattle.command.specs.declared.form.Form.{Form}
-use Rattle.command.specs.declared.form.Form.the-variants.{New, Load, Compare, Save, Restore, Quit, Abandon, Run, RunToException, Step, Back, Blame, Before, Registers, Cp0, Tlb, Clocks, Printers, Station, Paper, Papers, Examine, Physical, Help}
-use Rattle.command.specs.declared.form.Reading.{Reading}
+use Rattle.forms.specs.declared.form.Form.{Form}
+use Rattle.forms.specs.declared.form.Form.the-variants.{New, Load, Compare, Save, Restore, Quit, Abandon, Run, RunToException, Step, Back, Blame, Before, Registers, Cp0, Tlb, Clocks, Printers, Station, Paper, Papers, Examine, Physical, Help}
+use Rattle.forms.specs.declared.form.Reading.{Reading}
 
 abbrev pub spanOf : Named → Span
 spanOf n = record { from = n .from; to = n .to }

@@ -2,17 +2,17 @@
 use mathlib.Core.Bool.{Bool, true, false}
 use mathlib.Core.List.{List, [], _∷_}
 use Prim.Native.Nat.{ℕ, _-_, _^_}
-use Rattle.command.specs.Words as words
+use Rattle.forms.specs.Words as words
 use Rattle.piece.specs.Mark.{endOf, wordOf}
 use Rattle.piece.specs.Behind.{countedOf, namedOf, pastOf}
-use Rattle.command.specs.Form.{bestOf, plainOf, numberedOf, withNumber}
-use Rattle.command.specs.Fresh.{makingOf}
-use Rattle.command.specs.Look.{lookingOf}
+use Rattle.forms.specs.Form.{bestOf, plainOf, numberedOf, withNumber}
+use Rattle.forms.specs.Fresh.{makingOf}
+use Rattle.forms.specs.Look.{lookingOf}
 use Rattle.command.specs.Help.{helpingOf}
-use Rattle.command.specs.declared.form.Form.{Form}
-use Rattle.command.specs.declared.form.Form.the-variants.{New, Load, Compare, Save, Restore, Quit, Abandon, Run, RunToException, Step, Back, Blame, Before, Registers, Cp0, Tlb, Clocks, Printers, Station, Paper, Papers, Examine, Physical}
+use Rattle.forms.specs.declared.form.Form.{Form}
+use Rattle.forms.specs.declared.form.Form.the-variants.{New, Load, Compare, Save, Restore, Quit, Abandon, Run, RunToException, Step, Back, Blame, Before, Registers, Cp0, Tlb, Clocks, Printers, Station, Paper, Papers, Examine, Physical}
 use Rattle.piece.specs.declared.mark.Mark.{Mark}
-use Rattle.command.specs.declared.form.Reading.{Reading}
+use Rattle.forms.specs.declared.form.Reading.{Reading}
 
 -- a form that is only judged here: what it holds is read where it counts
 abbrev pub judged : Form → Mark → Reading

@@ -1,10 +1,10 @@
 // The forms of `help`.
-use crate::form::Form;
-use crate::form::Reading;
-use crate::form::better;
-use crate::form::or_plain;
-use crate::form::plain;
-use crate::kinds::Topic;
+use forms::form::Form;
+use forms::form::Reading;
+use forms::form::better;
+use forms::form::or_plain;
+use forms::form::plain;
+use forms::kinds::Topic;
 use piece::behind::past;
 use piece::mark::Mark;
 ghost use mathlib.Core.Path.{_≡_};

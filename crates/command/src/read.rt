@@ -1,11 +1,11 @@
 // A line as a command.
-use crate::form::Form;
-use crate::form::Reading;
-use crate::fresh::making;
 use crate::kinds::Command;
-use crate::kinds::Span;
-use crate::look::looking;
 use crate::table::forms;
+use forms::form::Form;
+use forms::form::Reading;
+use forms::fresh::making;
+use forms::kinds::Span;
+use forms::look::looking;
 use piece::behind::named;
 use piece::mark::Mark;
 use piece::mark::Named;
@@ -13,8 +13,8 @@ use piece::mark::behind_spaces;
 use piece::mark::stands;
 use piece::mark::word;
 ghost use mathlib.Core.Path.{_≡_};
-ghost use Rattle.command.specs.Fresh.{makingOf};
-ghost use Rattle.command.specs.Look.{lookingOf};
+ghost use Rattle.forms.specs.Fresh.{makingOf};
+ghost use Rattle.forms.specs.Look.{lookingOf};
 ghost use Rattle.command.specs.Line.{commandOf, saidOf, askedOf, nameBehind};
 
 pub fn command(line: &[u8]) -> Command

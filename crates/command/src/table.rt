@@ -1,15 +1,15 @@
 // The table of all forms, in parts. Each part answers the best reading among its forms.
-use crate::form::Form;
-use crate::form::Reading;
-use crate::form::better;
-use crate::form::numbered;
-use crate::form::or_numbered;
-use crate::form::or_plain;
-use crate::form::or_times;
-use crate::form::plain;
-use crate::fresh::making;
 use crate::help::helping;
-use crate::look::looking;
+use forms::form::Form;
+use forms::form::Reading;
+use forms::form::better;
+use forms::form::numbered;
+use forms::form::or_numbered;
+use forms::form::or_plain;
+use forms::form::or_times;
+use forms::form::plain;
+use forms::fresh::making;
+use forms::look::looking;
 use piece::behind::counted;
 use piece::behind::named;
 use piece::behind::past;
@@ -17,8 +17,8 @@ use piece::mark::Mark;
 use piece::mark::end;
 use piece::mark::word;
 ghost use mathlib.Core.Path.{_≡_};
-ghost use Rattle.command.specs.Fresh.{makingOf};
-ghost use Rattle.command.specs.Look.{lookingOf};
+ghost use Rattle.forms.specs.Fresh.{makingOf};
+ghost use Rattle.forms.specs.Look.{lookingOf};
 ghost use Rattle.command.specs.Table.{judged, formsOf, stationOf, forwardOf, runsOf, backwardOf, viewsOf, infosOf, loadOf, compareOf};
 
 const NO_END: u64 = 0xFFFF_FFFF_FFFF_FFFF;

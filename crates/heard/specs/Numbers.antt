@@ -3,15 +3,15 @@ use mathlib.Core.Bool.{Bool, cond}
 use mathlib.Core.List.{List, [], _∷_}
 use Prim.Native.Nat.{ℕ}
 use Rattle.command.specs.declared.kinds.Command.{Command}
-use Rattle.command.specs.declared.kinds.Fresh.{Fresh}
-use Rattle.command.specs.declared.kinds.Look.{Look}
-use Rattle.command.specs.declared.kinds.Format.{Format}
-use Rattle.command.specs.declared.kinds.Unit.{Unit}
-use Rattle.command.specs.declared.kinds.Topic.{Topic}
+use Rattle.forms.specs.declared.kinds.Fresh.{Fresh}
+use Rattle.forms.specs.declared.kinds.Look.{Look}
+use Rattle.forms.specs.declared.kinds.Format.{Format}
+use Rattle.forms.specs.declared.kinds.Unit.{Unit}
+use Rattle.forms.specs.declared.kinds.Topic.{Topic}
 use Rattle.command.specs.declared.kinds.Command.the-variants as command
-use Rattle.command.specs.declared.kinds.Format.the-variants as format
-use Rattle.command.specs.declared.kinds.Unit.the-variants as unit
-use Rattle.command.specs.declared.kinds.Topic.the-variants as topic
+use Rattle.forms.specs.declared.kinds.Format.the-variants as format
+use Rattle.forms.specs.declared.kinds.Unit.the-variants as unit
+use Rattle.forms.specs.declared.kinds.Topic.the-variants as topic
 
 abbrev pub formatNumber : Format → ℕ
 formatNumber format.Hex = 0

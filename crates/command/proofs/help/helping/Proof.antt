@@ -1,7 +1,7 @@
 -- `command::help::helping` meets its contract.
 use mathlib.Core.Path.{ap, _∙_}
 use Rattle.command.specs.Help.{ofMachine, ofStation, helpingOf}
-use Rattle.command.proofs.Best.{or-both}
+use Rattle.forms.proofs.Best.{or-both}
 use borrow.Author.Needs.{needs}
 use Rattle.command.proofs.help.helping.Statement.{statement}
 use Rattle.command.proofs.help.helping.Tie as tie

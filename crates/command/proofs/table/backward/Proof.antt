@@ -1,6 +1,6 @@
 -- `command::table::backward` meets its contract.
 use Rattle.command.specs.Table.{backwardOf}
-use Rattle.command.proofs.Best.{or-else, or-twice}
+use Rattle.forms.proofs.Best.{or-else, or-twice}
 use borrow.Author.Needs.{needs}
 use Rattle.command.proofs.table.backward.Statement.{statement}
 use Rattle.command.proofs.table.backward.Tie as tie

@@ -1,6 +1,6 @@
 -- `command::table::forms` meets its contract.
 use Rattle.command.specs.Table.{formsOf}
-use Rattle.command.proofs.Best.{or-both}
+use Rattle.forms.proofs.Best.{or-both}
 use borrow.Author.Needs.{needs}
 use Rattle.command.proofs.table.forms.Statement.{statement}
 use Rattle.command.proofs.table.forms.Tie as tie

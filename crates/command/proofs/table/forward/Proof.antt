@@ -1,6 +1,6 @@
 -- `command::table::forward` meets its contract.
 use Rattle.command.specs.Table.{forwardOf}
-use Rattle.command.proofs.Best.{or-twice}
+use Rattle.forms.proofs.Best.{or-twice}
 use borrow.Author.Needs.{needs}
 use Rattle.command.proofs.table.forward.Statement.{statement}
 use Rattle.command.proofs.table.forward.Tie as tie

@@ -1,6 +1,6 @@
 -- `command::table::infos` meets its contract.
 use Rattle.command.specs.Table.{infosOf}
-use Rattle.command.proofs.Best.{or-else}
+use Rattle.forms.proofs.Best.{or-else}
 use borrow.Author.Needs.{needs}
 use Rattle.command.proofs.table.infos.Statement.{statement}
 use Rattle.command.proofs.table.infos.Tie as tie

@@ -1,6 +1,6 @@
 -- `command::table::runs` meets its contract.
 use Rattle.command.specs.Table.{runsOf}
-use Rattle.command.proofs.Best.{or-both, plain-at, numbered-at}
+use Rattle.forms.proofs.Best.{or-both, plain-at, numbered-at}
 use borrow.Author.Needs.{needs}
 use Rattle.command.proofs.table.runs.Statement.{statement}
 use Rattle.command.proofs.table.runs.Tie as tie

@@ -1,6 +1,6 @@
 -- `command::table::station` meets its contract.
 use Rattle.command.specs.Table.{stationOf}
-use Rattle.command.proofs.Best.{or-else, or-both}
+use Rattle.forms.proofs.Best.{or-else, or-both}
 use borrow.Author.Needs.{needs}
 use Rattle.command.proofs.table.station.Statement.{statement}
 use Rattle.command.proofs.table.station.Tie as tie

@@ -1,7 +1,7 @@
 -- `command::table::views` meets its contract.
 use mathlib.Core.Path.{ap, _∙_}
 use Rattle.command.specs.Table.{infosOf, viewsOf}
-use Rattle.command.proofs.Best.{or-else, or-both}
+use Rattle.forms.proofs.Best.{or-else, or-both}
 use borrow.Author.Needs.{needs}
 use Rattle.command.proofs.table.views.Statement.{statement}
 use Rattle.command.proofs.table.views.Tie as tie

@@ -1,0 +1,4 @@
+pub mod Best
+pub mod Settings
+pub mod Shapes
+pub mod Making

@@ -1,0 +1,4 @@
+pub mod Words
+pub mod Form
+pub mod Fresh
+pub mod Look
