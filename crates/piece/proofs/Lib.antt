@@ -1,2 +1,5 @@
 pub mod Agreed
+pub mod Common
+pub mod Local
+pub mod LocalPieces
 pub mod Pieces

@@ -8,3 +8,5 @@ pub mod Worth
 pub mod Digits
 pub mod Whole
 pub mod RoundTrip
+pub mod Common
+pub mod Beginnings

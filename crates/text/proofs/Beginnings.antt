@@ -4,19 +4,20 @@ use mathlib.Core.Bool.{Bool, true, false, cond, _&&_, _||_, false≢true}
 use mathlib.Core.Logic.{_⊎_, inl, inr}
 use mathlib.Core.List.{List, [], _∷_, _++_}
 use Prim.Native.Nat.{ℕ, suc, _+_, _-_, _<_, _≤_, _^_}
+use native.Mathlib.Nat.{le-refl}
 use native.Mathlib.Omega.{arith}
 use borrow.Author.Tests.{eqb-true, ne-eqb, ltb-true, ltb-false}
 use lib.Dec.{eqb, ltb}
 use lib.ListN.{length, getD, take, drop, length-append, length-drop, List·getD-append}
 use lib.Seq.{drop-append-le, take-append-le, drop-cons}
 use Rattle.text.specs.Head.{headOf}
 use Rattle.text.specs.Digit.{digitOf, isDigit, runOf, valueOf}
 use Rattle.text.specs.Number.{heldOf, answerOf, digitsOf, digitsAt, isHex, decimalAt, numberOf}
 use Rattle.text.specs.declared.found.Number.{Number}
 use Rattle.text.specs.declared.found.Number.the-variants.{Value, TooLarge, Nothing}
 use Rattle.text.specs.declared.read.Total.the-variants.{Is}
 use Rattle.text.specs.declared.read.Total.the-variants as total
-use Rattle.place.proofs.Common.{behind-same}
+use Rattle.text.proofs.Common.{behind-same}
 
 abbrev pub Within : ℕ → Number → Type 0
 Within k (Value v next) = next < k
@@ -104,3 +105,30 @@ module _ (c t t′ : List ℕ) (at : ℕ) where
           let k : at + runOf 10 (drop at (c ++ t)) < length c = run-within at at 10 (c ++ t) (length c) w in
           ap (λ b. cond b (digitsAt at (at + 2) 16 (c ++ t′)) (decimalAt (c ++ t′) at)) (hex-same c at (omega arith) t t′ (split k) ∙ e)
           ∙ decimal-same c t t′ at w
+
+-- ---- where a number was read to, or failed
+abbrev pub placeIn : Number → ℕ
+placeIn (Value v next) = next
+placeIn (TooLarge place) = place
+placeIn (Nothing place) = place
+
+digits-later : (first from base : ℕ) (line : List ℕ) → first ≤ from → first ≤ placeIn (digitsAt first from base line)
+unfolding digitsAt digitsOf
+digits-later first from base line h = go (eqb (runOf base (drop from line)) 0) (ltb (valueOf base (take (runOf base (drop from line)) (drop from line))) (2 ^ 64))
+  where
+    go : (z y : Bool)
+        → first ≤ placeIn (cond z (Nothing from) (answerOf (cond y (Is (valueOf base (take (runOf base (drop from line)) (drop from line)))) total.TooLarge) first (from + runOf base (drop from line))))
+    go true y = h
+    go false true = omega arith
+    go false false = le-refl first
+
+pub decimal-later : (line : List ℕ) (at : ℕ) → at ≤ placeIn (decimalAt line at)
+decimal-later line at = digits-later at at 10 line (le-refl at)
+
+pub number-later : (line : List ℕ) (at : ℕ) → at ≤ placeIn (numberOf line at)
+unfolding numberOf
+number-later line at = go (isHex line at)
+  where
+    go : (x : Bool) → at ≤ placeIn (cond x (digitsAt at (at + 2) 16 line) (decimalAt line at))
+    go true = digits-later at (at + 2) 16 line (omega arith)
+    go false = decimal-later line at

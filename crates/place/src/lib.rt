@@ -1,1 +1,0 @@
-// No code: where a line is refused (specs/Place.antt, proofs/Refused.antt).
