@@ -10,7 +10,7 @@ use Rattle.piece.specs.Mark.{standsOf, agreedOf, gapOf, endOf, wordOf, numberIn
 use Rattle.forms.specs.Form.{betterOf}
 use Rattle.forms.specs.Fresh.{settingOf, fileOf, afterExecution, afterPrinters, afterDelay, afterScale, afterJournal, afterPaper, afterRam, makingOf}
 use Rattle.forms.specs.Look.{formatOf, unitOf, shapeOf, lookingOf}
-use Rattle.command.specs.Help.{ofMachine, ofStation, helpingOf}
+use Rattle.forms.specs.Help.{ofMachine, ofStation, helpingOf}
 use Rattle.command.specs.Table.{loadOf, compareOf, runsOf, stationOf, forwardOf, backwardOf, infosOf, viewsOf, formsOf}
 use Rattle.command.specs.Line.{commandOf}
 use Rattle.command.specs.declared.kinds.Command.{Command}

@@ -8,7 +8,7 @@ use Rattle.piece.specs.Behind.{countedOf, namedOf, pastOf}
 use Rattle.forms.specs.Form.{bestOf, plainOf, numberedOf, withNumber}
 use Rattle.forms.specs.Fresh.{makingOf}
 use Rattle.forms.specs.Look.{lookingOf}
-use Rattle.command.specs.Help.{helpingOf}
+use Rattle.forms.specs.Help.{helpingOf}
 use Rattle.forms.specs.declared.form.Form.{Form}
 use Rattle.forms.specs.declared.form.Form.the-variants.{New, Load, Compare, Save, Restore, Quit, Abandon, Run, RunToException, Step, Back, Blame, Before, Registers, Cp0, Tlb, Clocks, Printers, Station, Paper, Papers, Examine, Physical}
 use Rattle.piece.specs.declared.mark.Mark.{Mark}

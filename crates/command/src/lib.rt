@@ -1,6 +1,5 @@
 // A line of the station's language as a command.
 pub mod kinds; // the commands
-pub mod help; // the forms of `help`
 pub mod table; // the table of all forms
 pub mod read; // a line as a command
 

@@ -1,5 +1,4 @@
 // The table of all forms, in parts. Each part answers the best reading among its forms.
-use crate::help::helping;
 use forms::form::Form;
 use forms::form::Reading;
 use forms::form::better;
@@ -9,6 +8,7 @@ use forms::form::or_plain;
 use forms::form::or_times;
 use forms::form::plain;
 use forms::fresh::making;
+use forms::help::helping;
 use forms::look::looking;
 use piece::behind::counted;
 use piece::behind::named;

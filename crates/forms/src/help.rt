@@ -1,14 +1,14 @@
 // The forms of `help`.
-use forms::form::Form;
-use forms::form::Reading;
-use forms::form::better;
-use forms::form::or_plain;
-use forms::form::plain;
-use forms::kinds::Topic;
+use crate::form::Form;
+use crate::form::Reading;
+use crate::form::better;
+use crate::form::or_plain;
+use crate::form::plain;
+use crate::kinds::Topic;
 use piece::behind::past;
 use piece::mark::Mark;
 ghost use mathlib.Core.Path.{_≡_};
-ghost use Rattle.command.specs.Help.{helpingOf, ofMachine, ofStation};
+ghost use Rattle.forms.specs.Help.{helpingOf, ofMachine, ofStation};
 
 pub fn helping(line: &[u8], m: Mark) -> Reading
     ensures { λ r. ⌜ r ≡ helpingOf (now (line .entry)) m ⌝ }

@@ -1,10 +1,10 @@
--- `command::help::helping` meets its contract.
+-- `forms::help::helping` meets its contract.
 use mathlib.Core.Path.{ap, _∙_}
-use Rattle.command.specs.Help.{ofMachine, ofStation, helpingOf}
+use Rattle.forms.specs.Help.{ofMachine, ofStation, helpingOf}
 use Rattle.forms.proofs.Best.{or-both}
 use borrow.Author.Needs.{needs}
-use Rattle.command.proofs.help.helping.Statement.{statement}
-use Rattle.command.proofs.help.helping.Tie as tie
+use Rattle.forms.proofs.help.helping.Statement.{statement}
+use Rattle.forms.proofs.help.helping.Tie as tie
 
 slice-aggregate-plain : tie.Need-slice-aggregate-plain
 slice-aggregate-plain c = search needs
