@@ -1,0 +1,4 @@
+pub mod Settings
+pub mod Readings
+pub mod Forms
+pub mod Refused

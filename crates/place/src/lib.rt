@@ -1,0 +1,1 @@
+// No code: where a line is refused (proofs/Refused.antt).
