@@ -8,7 +8,6 @@ use native.Mathlib.Omega.{arith}
 use borrow.Author.Tests.{lt-leb, ltb-false}
 use lib.Dec.{eqb, ltb, leb}
 use lib.ListN.{length, drop, length-append}
-use Rattle.text.specs.Head.{headOf}
 use Rattle.text.specs.Number.{numberOf}
 use Rattle.text.specs.declared.found.Number.{Number}
 use Rattle.text.specs.declared.found.Number.the-variants.{Value, TooLarge, Nothing}
@@ -16,7 +15,6 @@ use Rattle.text.proofs.Common.{behind-same}
 use Rattle.text.proofs.Beginnings.{Within, number-same, placeIn, number-later}
 use Rattle.piece.specs.Mark.{goesOn, failsAt, standsOf, isSpace, isNameByte, behindSpaces, behindName, agreedOf, gapOf, endOf, wordOf, countOf, numberIn, nameOf}
 use Rattle.piece.specs.declared.mark.Mark.{Mark}
-use Rattle.piece.specs.declared.mark.Count.{Count}
 use Rattle.piece.proofs.Common.{word-same, stands-same}
 use Rattle.piece.proofs.Local.{Local, Outcome, goes, fails, placeOf, applied, stepOf, local-by, step-local}
 

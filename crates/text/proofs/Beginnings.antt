@@ -1,8 +1,8 @@
 -- A number that ends within the common beginning of two lines, and is not too large, is the same in both.
 use mathlib.Core.Path.{_≡_, refl, ap, sym, _∙_}
-use mathlib.Core.Bool.{Bool, true, false, cond, _&&_, _||_, false≢true}
+use mathlib.Core.Bool.{Bool, true, false, cond, _&&_, _||_}
 use mathlib.Core.Logic.{_⊎_, inl, inr}
-use mathlib.Core.List.{List, [], _∷_, _++_}
+use mathlib.Core.List.{List, _∷_, _++_}
 use Prim.Native.Nat.{ℕ, suc, _+_, _-_, _<_, _≤_, _^_}
 use native.Mathlib.Nat.{le-refl}
 use native.Mathlib.Omega.{arith}
@@ -39,7 +39,6 @@ module _ (c t t′ : List ℕ) where
   digits-same : (first from base : ℕ) → from + runOf base (drop from (c ++ t)) < length c → digitsAt first from base (c ++ t′) ≡ digitsAt first from base (c ++ t)
   unfolding digitsAt digitsOf
   digits-same first from base h =
-      let n : ℕ = runOf base (drop from (c ++ t)) in
       let l : from ≤ length c = omega arith in
       let k : length (drop from c) ≡ length c - from = length-drop from c in
       let fits : runOf base (drop from (c ++ t)) ≤ length (drop from c) = omega arith in
