@@ -1,0 +1,109 @@
+//! What a wrong panel would leave behind, with what it would show for `before`.
+
+use crate::ask::due;
+use crate::faults::Fault;
+use crate::screen::{self, Before, Blame};
+use crate::session::Said;
+use crate::show;
+use crate::world::World;
+use reference::{run_with_records, take_back};
+
+/// On hand and next slot are the image's last two words.
+const ON_HAND: usize = 493;
+const NEXT_SLOT: usize = 497;
+
+fn flip(bytes: &mut [u8]) {
+    if let Some(byte) = bytes.last_mut() {
+        *byte ^= 0x40;
+    }
+}
+
+fn step_back(world: &mut World) {
+    let panel = &mut world.session.panel;
+    let journal = panel.journal.content().to_vec();
+    let (image, ram) = (panel.image.content_mut(), panel.ram.content_mut());
+    take_back(image, ram, panel.paper.content_mut(), &journal, 1);
+}
+
+fn step_on(world: &mut World) {
+    let panel = &mut world.session.panel;
+    run_with_records(
+        panel.image.content_mut(),
+        panel.execution.content(),
+        panel.bootstrap.content(),
+        panel.ram.content_mut(),
+        panel.paper.content_mut(),
+        panel.journal.content_mut(),
+        1,
+        0,
+    );
+}
+
+impl Fault {
+    pub fn at_blame(self, world: &mut World, address: u64, said: &mut Said) {
+        said.screen = self.shown(world, address, &said.screen);
+        let panel = &mut world.session.panel;
+        match self {
+            Fault::BlameStaysBack => step_back(world),
+            Fault::BlameWritesImage => flip(panel.image.content_mut()),
+            Fault::BlameWritesRam => flip(panel.ram.content_mut()),
+            Fault::BlameWritesPaper => flip(panel.paper.content_mut()),
+            Fault::BlameWritesJournal => flip(panel.journal.content_mut()),
+            _ => {}
+        }
+    }
+
+    /// `before` has been said; the reference has not gone back yet.
+    pub fn at_before(self, world: &mut World, address: u64, said: &mut Said) {
+        let change = match due(world, address) {
+            Blame::Changed { change, .. } => change,
+            Blame::None { on_hand, .. } => {
+                if self == Fault::BeforeNoneGoesBack && on_hand > 0 {
+                    step_back(world);
+                }
+                return;
+            }
+            Blame::Refused { .. } => {
+                if self == Fault::BeforeRefusedWrites {
+                    flip(world.session.panel.ram.content_mut());
+                }
+                return;
+            }
+        };
+        self.wrong_stand(world);
+        let mut told = screen::before(&said.screen);
+        if let Before::Stands { took_back, old, new, instruction, .. } = &mut told {
+            match self {
+                Fault::BeforeOldForNew => *new = *old,
+                Fault::BeforeTookOneMore => *took_back += 1,
+                Fault::BeforeInstructionOfNow => {
+                    *instruction = world.past.instruction_now(change.pc)
+                }
+                _ => {}
+            }
+        }
+        said.screen = show::before(&told);
+    }
+
+    fn wrong_stand(self, world: &mut World) {
+        let past_on_hand = (world.past.on_hand as u32).to_be_bytes();
+        let past_next = (world.past.next_slot as u32).to_be_bytes();
+        let ram = world.past.ram().to_vec();
+        let paper = world.past.paper().to_vec();
+        let panel = &mut world.session.panel;
+        match self {
+            Fault::BeforeOneStepLate => step_on(world),
+            Fault::BeforeOneStepEarly => step_back(world),
+            Fault::BeforeKeepsOnHand => {
+                panel.image.content_mut()[ON_HAND..][..4].copy_from_slice(&past_on_hand)
+            }
+            Fault::BeforeKeepsNextSlot => {
+                panel.image.content_mut()[NEXT_SLOT..][..4].copy_from_slice(&past_next)
+            }
+            Fault::BeforeKeepsRam => panel.ram.content_mut().copy_from_slice(&ram),
+            Fault::BeforeKeepsPaper => panel.paper.content_mut().copy_from_slice(&paper),
+            Fault::BeforeWritesJournal => flip(panel.journal.content_mut()),
+            _ => {}
+        }
+    }
+}
