@@ -48,7 +48,8 @@ pub fn before(before: &Before) -> String {
     match before {
         Before::Not(not) => blame(not),
         Before::Stands { address, took_back, old, new, instruction, now } => format!(
-            "Took back {}.\nThe next step changes {address:#010x} from {old:#010x} to {new:#010x},\n\
+            "Took back {}.\n\
+             The next step changes {address:#010x} from {old:#010x} to {new:#010x},\n\
              by the instruction {instruction:#010x}.\n\
              Now: PC {:#010x}, clock {}, {} on hand.\n",
             steps(*took_back),

@@ -57,7 +57,8 @@ fn made(panel: Panel, manner: Manner, plan: &Plan, sizes: &Sizes) -> (Session, P
     let mut session = Session::open(panel, manner, false);
     let Sizes { slots, paper, delay, installed } = sizes;
     let line = format!(
-        "new ram {} paper {paper} journal {slots} delay {delay} printers {installed} execution e bootstrap b",
+        "new ram {} paper {paper} journal {slots} delay {delay} printers {installed} \
+         execution e bootstrap b",
         plan.frames
     );
     let said = session.say(&line);
