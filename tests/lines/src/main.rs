@@ -25,8 +25,8 @@ use std::process::exit;
 const DEFAULT_SEED: u64 = 1;
 const DEFAULT_LINES: u64 = 100_000;
 
-/// Longer lines are cut at so many places, from their start.
-const MOST_CUTS: usize = 120;
+/// Longer lines, of any bytes, are cut at so many places from their start.
+const MOST_CUTS: usize = 400;
 
 fn argument(place: usize, name: &str, otherwise: u64) -> u64 {
     match env::args().nth(place) {
