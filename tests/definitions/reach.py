@@ -24,6 +24,7 @@ STATEMENTS = [
     "Claim", "EachClaim", "RunClaim",
     "lastChangeOf", "newestAtOf", "oldestAtOf", "Tells", "pcsAgo", "agoIn",
     "isa.encodeOf", "isa.Proper",
+    "commandOf", "text.numberOf", "text.Laid", "text.decimalOf", "text.groupedOf", "text.signedOf", "text.hexOf",
 ]
 
 # Below this line a file has aids to the proofs of the code. A file of nothing else begins with it.

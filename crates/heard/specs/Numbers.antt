@@ -13,6 +13,8 @@ use Rattle.forms.specs.declared.kinds.Format.the-variants as format
 use Rattle.forms.specs.declared.kinds.Unit.the-variants as unit
 use Rattle.forms.specs.declared.kinds.Topic.the-variants as topic
 
+-- ---- aids to proofs: nothing that a reader must believe
+
 abbrev pub formatNumber : Format → ℕ
 formatNumber format.Hex = 0
 formatNumber format.Signed = 1
