@@ -8,7 +8,8 @@
 # crates/CRATE/must-fail/LABEL.edit is target/must-fail/CRATE/LABEL/.log. Its first
 # error has to be a fact that does not hold. A tactic that gave up, or a proof that
 # names what the edited code does not have, is none: it says nothing of the edit. How
-# many first errors there are of each kind is printed.
+# many first errors there are of each kind is printed. Where ROOT has docs/MUST_FAIL.md,
+# each edit has its row there, and each row its edit.
 #
 #     tests/must_fail/run.sh --self-test
 #
@@ -46,6 +47,19 @@ kind_of() {
         }' "$1"
 }
 
+# Names each edit with no row in ROOT's docs/MUST_FAIL.md, and each row with no edit.
+unlisted() {
+    page=$1/docs/MUST_FAIL.md
+    [ -f "$page" ] || return 0
+    for edit in "$1"/crates/*/must-fail/*.edit; do
+        echo "$(basename "$(dirname "$(dirname "$edit")")")/$(basename "$edit" .edit)"
+    done | sort > "$kinds.edits"
+    grep -o '`[a-z_0-9]*/[a-z_0-9]*`' "$page" | tr -d '`' | sort -u > "$kinds.rows"
+    comm -23 "$kinds.edits" "$kinds.rows" | sed 's/^/NO ROW in docs\/MUST_FAIL.md: /'
+    comm -13 "$kinds.edits" "$kinds.rows" | sed 's/^/NO EDIT for this row of docs\/MUST_FAIL.md: /'
+    rm -f "$kinds.edits" "$kinds.rows"
+}
+
 # Prints "N KIND" for each kind, and names each edit that shows nothing.
 judge() {
     kinds=$(mktemp) bad=0
@@ -66,9 +80,11 @@ judge() {
     done
     sort "$kinds" | uniq -c
     edits=$(wc -l < "$kinds")
+    lost=$(unlisted "$1")
+    [ -z "$lost" ] || echo "$lost"
     rm -f "$kinds"
     echo "must-fail edits: $((edits)), of which show nothing: $bad"
-    [ "$bad" -eq 0 ] && [ "$edits" -gt 0 ]
+    [ "$bad" -eq 0 ] && [ -z "$lost" ] && [ "$edits" -gt 0 ]
 }
 
 # made ROOT LABEL LINE..: an edit, and its log of these lines; no log if there are none.
@@ -106,6 +122,22 @@ self_test() {
     refused behind "p/Proof.antt:4:5: error: \`f-spec\`: \`close\` was not admitted, so this cannot be checked" "p/Proof.antt:9:1: error: \`x\` is not in scope"
     refused late "p/Proof.antt:2:1: error: \`x\` is not in scope" "p/Proof.antt:3:1: error: the two types differ"
     root=$(mktemp -d)
+    made "$root" good "p/Proof.antt:1:1: error: \`returns\`: the two types differ only where one has \`1\`"
+    mkdir "$root/docs"
+    echo '| `made/good` | and `made/gone`' > "$root/docs/MUST_FAIL.md"
+    if judge "$root" > "$root/out" || ! grep -q "NO EDIT .*: made/gone" "$root/out"; then
+        cat "$root/out"
+        echo "self-test: a row with no edit was let through" >&2
+        exit 1
+    fi
+    echo 'nothing' > "$root/docs/MUST_FAIL.md"
+    if judge "$root" > "$root/out" || ! grep -q "NO ROW .*: made/good" "$root/out"; then
+        cat "$root/out"
+        echo "self-test: an edit with no row was let through" >&2
+        exit 1
+    fi
+    rm -rf "$root"
+    root=$(mktemp -d)
     if judge "$root" > "$root/out"; then
         echo "self-test: no edit at all was let through" >&2
         exit 1
@@ -121,7 +153,7 @@ self_test() {
         exit 1
     }
     rm -rf "$root"
-    echo "self-test: eleven logs that show nothing were refused, and four that show a fact let through"
+    echo "self-test: eleven logs that show nothing were refused, an edit with no row and a row with no edit too, and four logs that show a fact let through"
 }
 
 case $#:${1:-} in
