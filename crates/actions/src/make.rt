@@ -1,17 +1,17 @@
 // new: a station is made, in two turns. The sizes are judged first; then the files are there, and the machine is reset.
+use crate::plan::Plan;
+use crate::plan::turns;
+use crate::plan::works;
 use command::Fresh;
-use inquiry::calls;
-use inquiry::calls::Called;
-use screen::moved;
-use screen::refusal;
+use screen::message;
 use session::answer::FILE_TROUBLE;
 use session::answer::MAKE;
 use session::answer::REFUSED;
-use session::answer::ask;
-use session::answer::refuse;
-use session::answer::refuse_number;
-use session::answer::want;
-use session::event::MADE;
+use session::answer::Then;
+use session::turn::Turn;
+use session::turn::quietly;
+use session::turn::says;
+use session::turn::tells;
 use session::words::CHANGED;
 use session::words::DELAY;
 use session::words::INSTALLED;
@@ -26,39 +26,8 @@ use session::words::RAM_BYTES;
 use session::words::SCALE;
 use session::words::SECOND_FROM;
 use session::words::SECOND_TO;
-
-fn refused(answer: Called) -> u64 {
-    match answer {
-        Called::Done(_, _) => 0,
-        Called::Refused(number) => number,
-    }
-}
-
-// What reset says of the three parameters.
-fn ranges(scale: u64, delay: u64, installed: u64) -> u64 {
-    let mut scratch = [0u8; 501];
-    refused(calls::reset(&mut scratch, scale, delay, installed))
-}
-
-// Rows 1, 3, 4 and 6 of document 01's numbers; 0 where nothing is refused.
-fn judged(fresh: Fresh) -> u64 {
-    if fresh.ram < 1 {
-        return 1;
-    }
-    if 4096 < fresh.ram {
-        return 1;
-    }
-    if 65536 < fresh.paper {
-        return 3;
-    }
-    if fresh.paper % 8 != 0 {
-        return 3;
-    }
-    if 65536 < fresh.journal {
-        return 4;
-    }
-    ranges(fresh.scale, fresh.delay, fresh.printers)
-}
+use session::work::Settings;
+use session::work::Work;
 
 fn noted(session: &mut [u64; 32], fresh: Fresh) {
     let execution = fresh.execution;
@@ -76,47 +45,32 @@ fn noted(session: &mut [u64; 32], fresh: Fresh) {
     session[MODE] = MAKING;
 }
 
-pub fn begin(session: &mut [u64; 32], fresh: Fresh, out: &mut [u8]) -> u64 {
+pub fn begin(session: &[u64; 32], fresh: Fresh) -> Plan {
     if session[IS_THERE] == 1 {
-        let at = refusal::station_there(out, 0);
-        return refuse(session, REFUSED, out, at);
+        return turns(tells(message::STATION_THERE, Then::Refuse(REFUSED)));
     }
-    let number = judged(fresh);
-    if number != 0 {
-        return refuse_number(session, number, out, 0);
-    }
-    noted(session, fresh);
-    want(MAKE, out, 0)
+    works(Work::Judge(fresh))
 }
 
-fn made(session: &mut [u64; 32], out: &mut [u8], image: &[u8]) -> u64 {
+pub fn accepted(session: &mut [u64; 32], fresh: Fresh) -> Turn {
+    noted(session, fresh);
+    quietly(Then::Want(MAKE))
+}
+
+pub fn planned(session: &[u64; 32], event: u64) -> Plan {
+    if event != session::event::MADE {
+        return turns(quietly(Then::Refuse(FILE_TROUBLE)));
+    }
+    let settings = Settings {
+        scale: session[SCALE],
+        delay: session[DELAY],
+        installed: session[INSTALLED],
+    };
+    works(Work::Make(settings))
+}
+
+pub fn made(session: &mut [u64; 32]) -> Turn {
     session[IS_THERE] = 1;
     session[CHANGED] = 1;
-    let at = moved::made(out, 0, image);
-    ask(session, out, at)
-}
-
-pub fn turn(
-    session: &mut [u64; 32],
-    event: u64,
-    out: &mut [u8],
-    image: &mut [u8],
-    execution: &[u8],
-    bootstrap: &[u8],
-    ram: &mut [u8],
-    paper: &mut [u8],
-    journal: &mut [u8],
-) -> u64 {
-    if event != MADE {
-        return refuse(session, FILE_TROUBLE, out, 0);
-    }
-    let number = refused(calls::reset(image, session[SCALE], session[DELAY], session[INSTALLED]));
-    if number != 0 {
-        return refuse_number(session, number, out, 0);
-    }
-    let number = refused(calls::run(image, execution, bootstrap, ram, paper, journal, 0, 0));
-    if number != 0 {
-        return refuse_number(session, number, out, 0);
-    }
-    made(session, out, image)
+    says(message::with(message::MADE, 1, 0, 0, 0), Then::Ask)
 }

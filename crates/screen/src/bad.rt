@@ -1,6 +1,7 @@
 // A line that is no command, with the place marked from which it fits none.
 ghost use Prim.Native.Nat.{_≤_};
-use phrase::template::with;
+use phrase::template::fill_row;
+use phrase::template::four;
 use text::put;
 
 // A long line is shown from here on, so that the place is in sight.
@@ -13,14 +14,19 @@ fn start(place: usize) -> usize
     place - 60
 }
 
-fn shown(out: &mut [u8], at: usize, byte: u8) -> usize {
+// A byte that is not printable is shown as a dot.
+fn face(byte: u8) -> u8 {
     if byte < b' ' {
-        return put(out, at, b".");
+        return b'.';
     }
     if b'~' < byte {
-        return put(out, at, b".");
+        return b'.';
     }
-    let shown = [byte];
+    byte
+}
+
+fn shown(out: &mut [u8], at: usize, byte: u8) -> usize {
+    let shown = [face(byte)];
     put(out, at, &shown)
 }
 
@@ -34,15 +40,24 @@ fn part(out: &mut [u8], at: usize, line: &[u8]) -> usize {
 
 fn marked(out: &mut [u8], at: usize, line: &[u8], column: usize) -> usize {
     let at = part(out, at, line);
-    with(
+    fill_row(
         out,
         at,
-        b"\n%|^\nThe line fits no command from the ^ on. Say help, or help and a word.\n",
-        column as u64,
+        b"\n%>^\nThe line fits no command from the ^ on. Say help, or help and a word.\n",
         0,
-        0,
-        0,
+        four(column as u64, 0, 0, 0),
     )
+}
+
+// At most 78 columns of a line that goes from `from` to `len`.
+fn end(from: usize, len: usize) -> usize
+    requires { ⌜ from ≤ len ⌝ }
+    ensures { λ r. ⌜ (from ≤ r) × (r ≤ len) ⌝ }
+{
+    if len - from < 78 {
+        return len;
+    }
+    from + 78
 }
 
 pub fn show(out: &mut [u8], at: usize, line: &[u8], place: usize) -> usize {
@@ -50,11 +65,6 @@ pub fn show(out: &mut [u8], at: usize, line: &[u8], place: usize) -> usize {
         return at;
     }
     let from = start(place);
-    let len = line.len();
-    let left = len - from;
-    if left < 78 {
-        return marked(out, at, &line[from..len], place - from);
-    }
-    let to = from + 78;
+    let to = end(from, line.len());
     marked(out, at, &line[from..to], place - from)
 }

@@ -1,8 +1,6 @@
 // Who changed a word of RAM.
-use crate::moved::stands;
-use phrase::template::fill;
-use phrase::template::with;
-use text::put;
+use crate::message;
+use crate::message::Message;
 
 // The step that changed the word at `address`.
 pub struct Culprit {
@@ -15,60 +13,33 @@ pub struct Culprit {
     pub instruction: u64,
 }
 
-pub fn found(out: &mut [u8], at: usize, c: Culprit) -> usize {
-    let at = with(
-        out,
-        at,
-        b"%a was last changed %s ago, from %w to %w:\n",
-        c.address,
-        c.ago,
-        c.old,
-        c.new,
-    );
-    with(
-        out,
-        at,
-        b"  clock %g (after its tick)\n  PC %w, instruction %w\nTo stand just before that step: before %a\n",
-        c.clock,
-        c.pc,
-        c.instruction,
-        c.address,
-    )
-}
-
-pub fn nothing(out: &mut [u8], at: usize, address: u64, holds: u64, on_hand: u64) -> usize {
-    with(
-        out,
-        at,
-        b"No step on hand changed %a, which holds %w.\nOn hand: %s. An older change is not in the journal any more.\n",
-        address,
-        holds,
-        on_hand,
-        0,
-    )
+pub fn found(c: Culprit) -> Message {
+    Message {
+        row: message::FOUND,
+        stands: 0,
+        a: c.address,
+        b: c.ago,
+        c: c.old,
+        d: c.new,
+        e: c.clock,
+        f: c.pc,
+        g: c.instruction,
+        h: c.address,
+    }
 }
 
 // The machine stands just before the step that changes `address`.
-pub fn before(out: &mut [u8], at: usize, image: &[u8], c: Culprit) -> usize {
-    let values = [
-        c.ago,
-        c.address,
-        c.old,
-        c.new,
-        c.instruction,
-        0,
-        0,
-        0,
-        0,
-        0,
-        0,
-        0,
-    ];
-    let at = fill(
-        out,
-        at,
-        b"Took back %s.\nThe next step changes %a from %w to %w,\nby the instruction %w.\n",
-        values,
-    );
-    stands(out, at, image)
+pub fn before(c: Culprit) -> Message {
+    Message {
+        row: message::BEFORE,
+        stands: 1,
+        a: c.ago,
+        b: c.address,
+        c: c.old,
+        d: c.new,
+        e: c.instruction,
+        f: 0,
+        g: 0,
+        h: 0,
+    }
 }

@@ -1,34 +1,33 @@
 // info clocks.
 use crate::image;
-use phrase::template::with;
+use phrase::template::eight;
+use phrase::template::fill_row;
 
-pub fn show(out: &mut [u8], at: usize, image: &[u8]) -> usize {
+fn words(image: &[u8]) -> [u64; 16] {
     let timer = image::word(image, image::TIMER);
-    let at = with(
-        out,
-        at,
-        b"clock          %g steps since the reset\n               (words %w %w)\n",
+    eight(
         image::clock(image),
         image::word(image, image::CLOCK_HIGH),
         image::word(image, image::CLOCK_LOW),
-        0,
-    );
-    let at = with(
-        out,
-        at,
-        b"timer          %w: interrupt line 2 asks in %s\n",
         timer,
         timer % 0x1_0000_0000 + 1,
-        0,
-        0,
-    );
-    with(
-        out,
-        at,
-        b"time scale     %d, a word that programs can read (set by new)\nprinter delay  %s from a printer's command to its end (set by new)\n",
         image::word(image, image::SCALE),
         image::word(image, image::DELAY),
         0,
+    )
+}
+
+pub fn show(out: &mut [u8], at: usize, image: &[u8]) -> usize {
+    let words = words(image);
+    fill_row(
+        out,
+        at,
+        b"clock          %g steps since the reset\n\
+        \x20              (words %w %w)\n\
+        timer          %w: interrupt line 2 asks in %s\n\
+        time scale     %d, a word that programs can read (set by new)\n\
+        printer delay  %s from a printer's command to its end (set by new)\n",
         0,
+        words,
     )
 }

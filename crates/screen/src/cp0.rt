@@ -1,146 +1,99 @@
 // info cp0: each register of coprocessor 0, with its fields in words.
 use crate::image;
-use phrase::template::fill;
-use phrase::template::with;
-use text::put;
+use phrase::template::eight;
+use phrase::template::fill_row;
 
-// One level of the two stacks of Status.
-fn level(out: &mut [u8], at: usize, name: &[u8], modes: u64, vm: u64) -> usize {
-    let at = put(out, at, name);
-    with(
-        out,
-        at,
-        b"user mode (KU) %y, interrupts on (IE) %y, table on (VM) %y\n",
-        modes / 2 % 2,
-        modes % 2,
-        vm % 2,
-        0,
-    )
-}
-
-fn status(out: &mut [u8], at: usize, image: &[u8]) -> usize {
+// Status, the three levels of its two stacks, and its other fields.
+fn status(image: &[u8]) -> [u64; 16] {
     let w = image::word(image, image::STATUS);
-    let vm = w / 0x100_0000;
-    let at = with(
-        out,
-        at,
-        b"Status   %w  who runs, and what may interrupt\n",
+    [
         w,
-        0,
-        0,
-        0,
-    );
-    let at = level(out, at, b"  current:  ", w, vm);
-    let at = level(out, at, b"  previous: ", w / 4, vm / 2);
-    let at = level(out, at, b"  old:      ", w / 16, vm / 4);
-    with(
-        out,
-        at,
-        b"  interrupt lines let in (IM):%l\n  user programs may use CP0 (CU0): %y; exceptions enter the ROM (BEV): %y\n",
+        w / 2 % 2,
+        w % 2,
+        w / 0x100_0000 % 2,
+        w / 8 % 2,
+        w / 4 % 2,
+        w / 0x200_0000 % 2,
+        w / 32 % 2,
+        w / 16 % 2,
+        w / 0x400_0000 % 2,
         w / 256 % 256,
         w / 0x1000_0000 % 2,
         w / 0x40_0000 % 2,
         0,
-    )
+        0,
+        0,
+    ]
 }
 
-fn cause(out: &mut [u8], at: usize, image: &[u8]) -> usize {
+fn cause(image: &[u8]) -> [u64; 16] {
     let w = image::word(image, image::CAUSE);
     let code = w / 4 % 32;
-    let at = with(
-        out,
-        at,
-        b"Cause    %w  last exception: %d %e\n",
+    eight(
         w,
         code,
         code,
-        0,
-    );
-    with(
-        out,
-        at,
-        b"  interrupt lines that ask (IP):%l\n  in a branch's slot (BD): %y; coprocessor of a code 11 (CE): %d\n",
         w / 256 % 256,
         w / 0x8000_0000 % 2,
         w / 0x1000_0000 % 4,
-        0,
+        image::word(image, image::EPC),
+        image::word(image, image::BAD_VADDR),
     )
 }
 
-fn entry(out: &mut [u8], at: usize, image: &[u8]) -> usize {
+// What has to do with the table.
+fn entries(image: &[u8]) -> [u64; 16] {
     let high = image::word(image, image::ENTRY_HI);
     let low = image::word(image, image::ENTRY_LO);
-    let at = with(
-        out,
-        at,
-        b"EntryHi  %w  page %w, address space (ASID) %d\n",
+    let index = image::word(image, image::INDEX);
+    let random = image::word(image, image::RANDOM);
+    [
         high,
         high / 4096 * 4096,
         high / 64 % 64,
-        0,
-    );
-    let values = [
         low,
         low / 4096 * 4096,
         low / 2048 % 2,
         low / 1024 % 2,
         low / 512 % 2,
         low / 256 % 2,
-        0,
-        0,
-        0,
-        0,
-        0,
-        0,
-    ];
-    fill(
-        out,
-        at,
-        b"EntryLo  %w  frame %w, N %d, D %d, V %d, G %d\n",
-        values,
-    )
-}
-
-fn indexes(out: &mut [u8], at: usize, image: &[u8]) -> usize {
-    let index = image::word(image, image::INDEX);
-    let random = image::word(image, image::RANDOM);
-    let at = with(
-        out,
-        at,
-        b"Index    %w  entry %d for TLBR and TLBWI; TLBP found none (P): %y\n",
         index,
         index / 256 % 64,
         index / 0x8000_0000 % 2,
-        0,
-    );
-    with(
-        out,
-        at,
-        b"Random   %w  entry %d for TLBWR; goes down with each step\n",
         random,
         random / 256 % 64,
         0,
         0,
+    ]
+}
+
+fn part(out: &mut [u8], at: usize, number: u64, values: [u64; 16]) -> usize {
+    fill_row(
+        out,
+        at,
+        b"CP0: what the machine knows of modes, exceptions and the table.\n\
+        Status   %w  who runs, and what may interrupt\n\
+        \x20 current:  user mode (KU) %y, interrupts on (IE) %y, table on (VM) %y\n\
+        \x20 previous: user mode (KU) %y, interrupts on (IE) %y, table on (VM) %y\n\
+        \x20 old:      user mode (KU) %y, interrupts on (IE) %y, table on (VM) %y\n\
+        \x20 interrupt lines let in (IM):%l\n\
+        \x20 user programs may use CP0 (CU0): %y; exceptions enter the ROM (BEV): %y\n|\
+        Cause    %w  last exception: %d %e\n\
+        \x20 interrupt lines that ask (IP):%l\n\
+        \x20 in a branch's slot (BD): %y; coprocessor of a code 11 (CE): %d\n\
+        EPC      %w  where the last exception was\n\
+        BadVAddr %w  the address of the last exception of codes 1 to 5\n|\
+        EntryHi  %w  page %w, address space (ASID) %d\n\
+        EntryLo  %w  frame %w, N %d, D %d, V %d, G %d\n\
+        Index    %w  entry %d for TLBR and TLBWI; TLBP found none (P): %y\n\
+        Random   %w  entry %d for TLBWR; goes down with each step\n",
+        number,
+        values,
     )
 }
 
 pub fn show(out: &mut [u8], at: usize, image: &[u8]) -> usize {
-    let at = put(
-        out,
-        at,
-        b"CP0: what the machine knows of modes, exceptions and the table.\n",
-    );
-    let at = status(out, at, image);
-    let at = cause(out, at, image);
-    let at = with(
-        out,
-        at,
-        b"EPC      %w  where the last exception was\nBadVAddr %w  the address of the last exception of codes 1 to 5\n",
-        image::word(image, image::EPC),
-        image::word(image, image::BAD_VADDR),
-        0,
-        0,
-    );
-    let at = entry(out, at, image);
-    indexes(out, at, image)
+    let at = part(out, at, 0, status(image));
+    let at = part(out, at, 1, cause(image));
+    part(out, at, 2, entries(image))
 }

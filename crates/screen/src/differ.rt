@@ -1,8 +1,8 @@
 // In what two stations differ: the words of the state, and how many bytes of RAM, paper and journal.
 ghost use Prim.Native.Nat.{_≤_};
 use crate::image;
-use phrase::template::with;
-use text::put;
+use phrase::template::fill_row;
+use phrase::template::four;
 
 fn word(out: &mut [u8], at: usize, image: &[u8], other: &[u8], k: usize) -> usize {
     let here = image::word(image, k);
@@ -10,7 +10,13 @@ fn word(out: &mut [u8], at: usize, image: &[u8], other: &[u8], k: usize) -> usiz
     if here == there {
         return at;
     }
-    with(out, at, b"  %n%|%w  %w\n", k as u64, 26, here, there)
+    fill_row(
+        out,
+        at,
+        b"  %n%>%w  %w\n",
+        0,
+        four(k as u64, 26, here, there),
+    )
 }
 
 fn words(out: &mut [u8], at: usize, image: &[u8], other: &[u8]) -> usize {
@@ -21,19 +27,36 @@ fn words(out: &mut [u8], at: usize, image: &[u8], other: &[u8]) -> usize {
     next
 }
 
-pub fn states(out: &mut [u8], at: usize, image: &[u8], other: &[u8]) -> usize {
-    let from = put(out, at, b"State: what differs       here        there\n");
-    let to = words(out, from, image, other);
+// Row 1 if nothing was laid.
+fn nothing(from: usize, to: usize) -> u64 {
     if from == to {
-        return put(out, to, b"  nothing\n");
+        return 1;
     }
-    to
+    0
+}
+
+pub fn states(out: &mut [u8], at: usize, image: &[u8], other: &[u8]) -> usize {
+    let from = fill_row(
+        out,
+        at,
+        b"State: what differs       here        there\n",
+        0,
+        four(0, 0, 0, 0),
+    );
+    let to = words(out, from, image, other);
+    fill_row(
+        out,
+        to,
+        b"|  nothing\n",
+        nothing(from, to),
+        four(0, 0, 0, 0),
+    )
 }
 
 // How many bytes differ, and the place of the first.
-pub struct Difference {
-    pub count: u64,
-    pub first: usize,
+struct Difference {
+    count: u64,
+    first: usize,
 }
 
 fn counted(d: Difference, place: usize, here: u8, there: u8) -> Difference {
@@ -57,7 +80,7 @@ fn shorter(a: usize, b: usize) -> usize
 }
 
 // Of the bytes that both have.
-fn compared(here: &[u8], there: &[u8]) -> Difference {
+fn counting(here: &[u8], there: &[u8]) -> Difference {
     let len = shorter(here.len(), there.len());
     let mut d = Difference { count: 0, first: 0 };
     for i in 0..len {
@@ -66,38 +89,51 @@ fn compared(here: &[u8], there: &[u8]) -> Difference {
     d
 }
 
+// What is said of two buffers: the first, second or third of their rows in the table below, and its two values.
+pub struct Judged {
+    row: u64,
+    a: u64,
+    b: u64,
+}
+
 // `from` is the address of the first byte.
-pub fn bytes(
-    out: &mut [u8],
-    at: usize,
-    name: &[u8],
-    here: &[u8],
-    there: &[u8],
-    from: u64,
-) -> usize {
-    let at = put(out, at, name);
+pub fn judge(here: &[u8], there: &[u8], from: u64) -> Judged {
     if here.len() != there.len() {
-        return with(
-            out,
-            at,
-            b"%g bytes here, %g there\n",
-            here.len() as u64,
-            there.len() as u64,
-            0,
-            0,
-        );
+        return Judged {
+            row: 0,
+            a: here.len() as u64,
+            b: there.len() as u64,
+        };
     }
-    let d = compared(here, there);
-    if d.count == 0 {
-        return put(out, at, b"the same\n");
+    let d = counting(here, there);
+    let row = if d.count == 0 { 1 } else { 2 };
+    Judged {
+        row,
+        a: d.count,
+        b: std::num::wrapping_add_u64(from, d.first as u64),
     }
-    with(
+}
+
+fn part(out: &mut [u8], at: usize, row: u64, v: Judged) -> usize {
+    fill_row(
         out,
         at,
-        b"%g bytes differ, the first at %a\n",
-        d.count,
-        std::num::wrapping_add_u64(from, d.first as u64),
-        0,
-        0,
+        b"RAM: %g bytes here, %g there\n|\
+        RAM: the same\n|\
+        RAM: %g bytes differ, the first at %a\n|\
+        paper: %g bytes here, %g there\n|\
+        paper: the same\n|\
+        paper: %g bytes differ, the first at %a\n|\
+        journal: %g bytes here, %g there\n|\
+        journal: the same\n|\
+        journal: %g bytes differ, the first at %a\n",
+        row,
+        four(v.a, v.b, 0, 0),
     )
+}
+
+pub fn bytes(out: &mut [u8], at: usize, ram: Judged, paper: Judged, journal: Judged) -> usize {
+    let at = part(out, at, ram.row % 3, ram);
+    let at = part(out, at, paper.row % 3 + 3, paper);
+    part(out, at, journal.row % 3 + 6, journal)
 }

@@ -1,81 +1,73 @@
 // x: units of memory, some on a line behind the address of the first.
-use phrase::template::with;
-use text::put;
-use text::put_decimal;
-use text::put_signed;
+use phrase::template::fill_row;
+use phrase::template::four;
 
-pub fn label(out: &mut [u8], at: usize, address: u64) -> usize {
-    with(out, at, b"%w:", address, 0, 0, 0)
+// How a line begins: not before this unit; with the address; or so, behind the end of the line that was open.
+pub const GOES_ON: u64 = 0;
+
+pub const BEGINS: u64 = 1;
+
+pub const BEGINS_ANEW: u64 = 2;
+
+// How a unit is shown.
+pub const HEX_BYTE: u64 = 0;
+
+pub const HEX_HALF: u64 = 1;
+
+pub const HEX_WORD: u64 = 2;
+
+pub const SIGNED: u64 = 3;
+
+pub const UNSIGNED: u64 = 4;
+
+pub const CHARACTER: u64 = 5;
+
+pub const RAISES: u64 = 6;
+
+pub const DEVICE: u64 = 7;
+
+// `begins` and `shows` are of the rows above; the line ends behind the unit if `ends` is 1.
+pub struct Unit {
+    pub begins: u64,
+    pub address: u64,
+    pub shows: u64,
+    pub value: u64,
+    pub ends: u64,
 }
 
-// By its bytes: 1, 2 or 4.
-pub fn hex(out: &mut [u8], at: usize, value: u64, bytes: u64) -> usize {
-    match bytes {
-        1 => with(out, at, b" %b", value, 0, 0, 0),
-        2 => with(out, at, b" %h", value, 0, 0, 0),
-        _ => with(out, at, b" %w", value, 0, 0, 0),
-    }
-}
-
-// The 32 bits of a signed unit.
-fn extended(value: u64, bytes: u64) -> u32 {
-    let value = value % 0x1_0000_0000;
-    let low = value as u32;
-    if bytes == 1 {
-        if 0x80 <= value {
-            return std::num::wrapping_add_u32(low, 0xFFFF_FF00);
-        }
-    }
-    if bytes == 2 {
-        if 0x8000 <= value {
-            return std::num::wrapping_add_u32(low, 0xFFFF_0000);
-        }
-    }
-    low
-}
-
-pub fn signed(out: &mut [u8], at: usize, value: u64, bytes: u64) -> usize {
-    let at = put(out, at, b" ");
-    put_signed(out, at, extended(value, bytes))
-}
-
-pub fn unsigned(out: &mut [u8], at: usize, value: u64) -> usize {
-    let at = put(out, at, b" ");
-    put_decimal(out, at, value)
-}
-
-pub fn character(out: &mut [u8], at: usize, value: u64) -> usize {
-    with(out, at, b" %k", value, 0, 0, 0)
-}
-
-pub fn raises(out: &mut [u8], at: usize, address: u64, code: u64) -> usize {
-    with(
+pub fn show(out: &mut [u8], at: usize, unit: Unit) -> usize {
+    let value = four(unit.value, unit.value, 0, 0);
+    let at = fill_row(
         out,
         at,
-        b"%w: no access: exception %d %e\n",
-        address,
-        code,
-        code,
-        0,
-    )
-}
-
-pub fn device(out: &mut [u8], at: usize, address: u64) -> usize {
-    with(
+        b"|%w:|\n%w:",
+        unit.begins,
+        four(unit.address, 0, 0, 0),
+    );
+    let at = fill_row(
         out,
         at,
-        b"%w: the device area. See info clocks, info printers.\n",
-        address,
-        0,
-        0,
-        0,
+        b" %b| %h| %w| %i| %d| %k|\
+        \x20no access: exception %d %e\n|\
+        \x20the device area. See info clocks, info printers.\n",
+        unit.shows,
+        value,
+    );
+    end(out, at, unit.ends)
+}
+
+// The end of a line that is open, if `open` is 1.
+pub fn end(out: &mut [u8], at: usize, open: u64) -> usize {
+    fill_row(out, at, b"|\n", open, four(0, 0, 0, 0))
+}
+
+// Behind as many units as are shown at once, if `cut` is 1.
+pub fn cut(out: &mut [u8], at: usize, cut: u64) -> usize {
+    fill_row(
+        out,
+        at,
+        b"|x shows at most 4,096 at once.\n",
+        cut,
+        four(0, 0, 0, 0),
     )
-}
-
-pub fn cut(out: &mut [u8], at: usize) -> usize {
-    put(out, at, b"x shows at most 4,096 at once.\n")
-}
-
-pub fn no_address(out: &mut [u8], at: usize) -> usize {
-    put(out, at, b"An address has 32 bits: at most 0xffffffff.\n")
 }

@@ -1,6 +1,7 @@
 // What a printer printed: printable characters and line feeds as they are, all other bytes as \xNN.
 use phrase::names::character;
-use phrase::template::with;
+use phrase::template::fill_row;
+use phrase::template::four;
 use text::put;
 
 fn printed(out: &mut [u8], at: usize, byte: u8) -> usize {
@@ -18,28 +19,26 @@ fn all(out: &mut [u8], at: usize, text: &[u8]) -> usize {
     next
 }
 
-// A line that the paper left open is ended.
-fn ended(out: &mut [u8], at: usize, text: &[u8]) -> usize {
+// 1: the paper left a line open, which is ended.
+fn is_open(text: &[u8]) -> u64 {
     if text.len() == 0 {
-        return at;
+        return 0;
     }
     if text[text.len() - 1] == b'\n' {
-        return at;
+        return 0;
     }
-    put(out, at, b"\n")
+    1
 }
 
 // `text` is what printer n printed.
 pub fn show(out: &mut [u8], at: usize, n: u64, text: &[u8]) -> usize {
-    let at = with(
+    let at = fill_row(
         out,
         at,
         b"Printer %d, bytes printed: %g\n",
-        n,
-        text.len() as u64,
         0,
-        0,
+        four(n, text.len() as u64, 0, 0),
     );
     let at = all(out, at, text);
-    ended(out, at, text)
+    fill_row(out, at, b"|\n", is_open(text), four(0, 0, 0, 0))
 }

@@ -7,16 +7,16 @@ use crate::words::MODE;
 use crate::words::ON_TERMINAL;
 use crate::words::ONE_COMMAND;
 use crate::words::STATUS;
-use screen::refusal;
-use text::put;
+use phrase::template::fill_row;
+use phrase::template::four;
 
 const INPUT: u64 = 0;
 
-const SAVE: u64 = 2;
+pub const GO_ON: u64 = 1;
+
+pub const SAVE: u64 = 2;
 
 const END: u64 = 3;
-
-pub const GO_ON: u64 = 1;
 
 pub const FILE: u64 = 4;
 
@@ -40,16 +40,50 @@ const OUTPUT: u64 = 0;
 
 const ERROR: u64 = 1;
 
-fn packed(wants: u64, status: u64, stream: u64, bytes: u64) -> u64 {
-    wants % 256 + status % 256 * 256 + stream % 256 * 65536 + bytes % 0x1_0000_0000 * 0x1_0000_0000
+// What is laid last: a row of the table in `answer`.
+const NOTHING: u64 = 0;
+
+const PROMPT: u64 = 1;
+
+const STOPPED: u64 = 2;
+
+// How a turn ends.
+pub enum Then {
+    // The next line is wanted.
+    Ask,
+    // Something is wanted that this turn can't do.
+    Want(u64),
+    // What was asked for is refused, with this exit status, and `out` says why. A script or the arguments end there; at a prompt one goes on.
+    Refuse(u64),
+    // Ctrl-C ended what was asked for. That is how some runs are meant to end, but a script ends with it.
+    Pause,
+    // The session ends; what has changed is saved before.
+    Finish(u64),
+    // The session ends and saves nothing.
+    End(u64),
 }
 
-// The bytes of `out` up to `at`, of which there are never more than it has.
-fn written(out: &[u8], at: usize) -> u64 {
-    if at <= out.len() {
+// All that a turn answers but for the bytes, and what is laid last.
+struct Closing {
+    wants: u64,
+    status: u64,
+    stream: u64,
+    last: u64,
+}
+
+fn packed(a: Closing, bytes: u64) -> u64 {
+    a.wants % 256
+        + a.status % 256 * 256
+        + a.stream % 256 * 65536
+        + bytes % 0x1_0000_0000 * 0x1_0000_0000
+}
+
+// Up to `at`, but never more than there are.
+fn written(len: usize, at: usize) -> u64 {
+    if at <= len {
         return at as u64;
     }
-    out.len() as u64
+    len as u64
 }
 
 // A person types the lines.
@@ -57,74 +91,89 @@ pub fn at_prompt(session: &[u64; 32]) -> bool {
     (session[ON_TERMINAL] == 1) & (session[ONE_COMMAND] != 1)
 }
 
-// Something is wanted that this turn can't do.
-pub fn want(wants: u64, out: &[u8], at: usize) -> u64 {
-    packed(wants, DONE, OUTPUT, written(out, at))
-}
-
-fn prompt(asks: bool, out: &mut [u8], at: usize) -> u64 {
-    if asks {
-        let at = put(out, at, b"station> ");
-        return want(INPUT, out, at);
+fn want(wants: u64) -> Closing {
+    Closing {
+        wants,
+        status: DONE,
+        stream: OUTPUT,
+        last: NOTHING,
     }
-    want(INPUT, out, at)
 }
 
-// The next line is wanted.
-pub fn ask(session: &mut [u64; 32], out: &mut [u8], at: usize) -> u64 {
+fn ask(session: &mut [u64; 32]) -> Closing {
     session[MODE] = IDLE;
-    prompt(at_prompt(session), out, at)
-}
-
-fn save_and_end(changed: u64, status: u64, stream: u64, out: &[u8], at: usize) -> u64 {
-    if changed == 0 {
-        return packed(END, status, stream, written(out, at));
+    let last = if at_prompt(session) { PROMPT } else { NOTHING };
+    Closing {
+        wants: INPUT,
+        status: DONE,
+        stream: OUTPUT,
+        last,
     }
-    packed(SAVE, DONE, stream, written(out, at))
 }
 
-// The session ends; what has changed is saved before.
-fn end_by(session: &mut [u64; 32], status: u64, stream: u64, out: &[u8], at: usize) -> u64 {
+fn end(status: u64, stream: u64, last: u64) -> Closing {
+    Closing {
+        wants: END,
+        status,
+        stream,
+        last,
+    }
+}
+
+fn save_and_end(session: &mut [u64; 32], status: u64, stream: u64, last: u64) -> Closing {
     session[STATUS] = status;
     session[MODE] = ENDING;
-    save_and_end(session[CHANGED], status, stream, out, at)
+    if session[CHANGED] == 0 {
+        return end(status, stream, last);
+    }
+    Closing {
+        wants: SAVE,
+        status: DONE,
+        stream,
+        last,
+    }
 }
 
-pub fn finish(session: &mut [u64; 32], status: u64, out: &[u8], at: usize) -> u64 {
-    end_by(session, status, OUTPUT, out, at)
-}
-
-// The session ends and saves nothing.
-pub fn end_now(status: u64, out: &[u8], at: usize) -> u64 {
-    packed(END, status, OUTPUT, written(out, at))
-}
-
-pub fn want_save(out: &[u8], at: usize) -> u64 {
-    want(SAVE, out, at)
-}
-
-// What was asked for is refused, and `out` says why. A script or the arguments end there; at a prompt one goes on.
-pub fn refuse(session: &mut [u64; 32], status: u64, out: &mut [u8], at: usize) -> u64 {
+fn refuse(session: &mut [u64; 32], status: u64) -> Closing {
     if at_prompt(session) {
-        return ask(session, out, at);
+        return ask(session);
     }
-    if session[ONE_COMMAND] == 1 {
-        return end_by(session, status, ERROR, out, at);
-    }
-    let at = refusal::stopped(out, at, session[LINES]);
-    end_by(session, status, ERROR, out, at)
+    let last = if session[ONE_COMMAND] == 1 {
+        NOTHING
+    } else {
+        STOPPED
+    };
+    save_and_end(session, status, ERROR, last)
 }
 
-// Ctrl-C ended what was asked for. That is how some runs are meant to end, but a script ends with it.
-pub fn pause(session: &mut [u64; 32], out: &mut [u8], at: usize) -> u64 {
+fn pause(session: &mut [u64; 32]) -> Closing {
     if session[ONE_COMMAND] == 1 {
-        return ask(session, out, at);
+        return ask(session);
     }
-    refuse(session, REFUSED, out, at)
+    refuse(session, REFUSED)
 }
 
-// Document 01's refusals.
-pub fn refuse_number(session: &mut [u64; 32], number: u64, out: &mut [u8], at: usize) -> u64 {
-    let at = refusal::numbered(out, at, number);
-    refuse(session, REFUSED, out, at)
+fn ending(session: &mut [u64; 32], then: Then) -> Closing {
+    match then {
+        Then::Ask => ask(session),
+        Then::Want(wants) => want(wants),
+        Then::Refuse(status) => refuse(session, status),
+        Then::Pause => pause(session),
+        Then::Finish(status) => save_and_end(session, status, OUTPUT, NOTHING),
+        Then::End(status) => end(status, OUTPUT, NOTHING),
+    }
+}
+
+// `out` is laid up to `at`.
+pub fn answer(session: &mut [u64; 32], then: Then, out: &mut [u8], at: usize) -> u64 {
+    let closing = ending(session, then);
+    let at = fill_row(
+        out,
+        at,
+        b"|station> |\
+        The script stops at its line %d. What the lines before it did is kept.\n",
+        closing.last,
+        four(session[LINES], 0, 0, 0),
+    );
+    packed(closing, written(out.len(), at))
 }

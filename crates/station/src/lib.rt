@@ -1,4 +1,3 @@
 // The session of a technician with one machine. The C side of include/station.h calls one turn after the other; a turn takes one line, or at most 100,000 steps.
-mod compare; // compare, and its call for C
-mod line; // one line
+mod compare; // the call for C that compares two stations
 mod panel; // one turn: the call for C

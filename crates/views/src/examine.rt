@@ -5,8 +5,6 @@ use command::Unit;
 use inquiry::reading::Read;
 use inquiry::reading::physical_unit;
 use inquiry::reading::virtual_unit;
-use session::answer::ask;
-use text::put;
 
 // The most units that are shown at once.
 const MOST: u64 = 4096;
@@ -46,73 +44,111 @@ fn on_line(unit: Unit) -> u64 {
     }
 }
 
-fn shown(out: &mut [u8], at: usize, format: Format, value: u64, bytes: u64) -> usize {
-    match format {
-        Format::Hex => screen::memory::hex(out, at, value, bytes),
-        Format::Signed => screen::memory::signed(out, at, value, bytes),
-        Format::Unsigned => screen::memory::unsigned(out, at, value),
-        Format::Character => screen::memory::character(out, at, value),
+fn hex(unit: Unit) -> u64 {
+    match unit {
+        Unit::Byte => screen::memory::HEX_BYTE,
+        Unit::Half => screen::memory::HEX_HALF,
+        Unit::Word => screen::memory::HEX_WORD,
     }
+}
+
+fn shows(look: Look) -> u64 {
+    let unit = look.unit;
+    let format = look.format;
+    match format {
+        Format::Hex => hex(unit),
+        Format::Signed => screen::memory::SIGNED,
+        Format::Unsigned => screen::memory::UNSIGNED,
+        Format::Character => screen::memory::CHARACTER,
+    }
+}
+
+fn extended(value: u64, least: u64, more: u64) -> u64 {
+    if value < least {
+        return value;
+    }
+    std::num::wrapping_add_u64(value, more)
+}
+
+// The 32 bits of a signed unit.
+fn signed(unit: Unit, value: u64) -> u64 {
+    match unit {
+        Unit::Byte => extended(value, 0x80, 0xFFFF_FF00),
+        Unit::Half => extended(value, 0x8000, 0xFFFF_0000),
+        Unit::Word => value,
+    }
+}
+
+fn value_of(look: Look, value: u64) -> u64 {
+    let unit = look.unit;
+    let format = look.format;
+    match format {
+        Format::Hex => value,
+        Format::Signed => signed(unit, value),
+        Format::Unsigned => value,
+        Format::Character => value,
+    }
+}
+
+fn is_open(place: u64) -> u64 {
+    if place == 0 {
+        return 0;
+    }
+    1
 }
 
 // Behind the last unit of a line the line ends.
-fn ended(out: &mut [u8], at: usize, place: u64, last: u64) -> usize {
-    if place == last {
-        return put(out, at, b"\n");
+fn next_place(s: Looked, look: Look) -> u64 {
+    let place = s.place % 8 + 1;
+    if place == on_line(unit(look)) {
+        return 0;
     }
-    at
+    place
 }
 
-// Before the first unit of a line stands its address.
-fn begun(out: &mut [u8], s: Looked) -> usize {
-    if s.place == 0 {
-        return screen::memory::label(out, s.at, s.address as u64);
+fn valued(s: Looked, look: Look, value: u64) -> screen::memory::Unit {
+    screen::memory::Unit {
+        begins: 1 - is_open(s.place) % 2,
+        address: s.address as u64,
+        shows: shows(look),
+        value: value_of(look, value),
+        ends: 1 - is_open(next_place(s, look)) % 2,
     }
-    s.at
-}
-
-fn valued(out: &mut [u8], s: Looked, look: Look, value: u64) -> Looked {
-    let unit = unit(look);
-    let format = look.format;
-    let size = bytes(unit);
-    let line = on_line(unit);
-    let place = (s.place % 8 + 1) % 9;
-    let at = begun(out, s);
-    let at = shown(out, at, format, value, size);
-    let at = ended(out, at, place, line);
-    let next = if place == line { 0 } else { place };
-    Looked {
-        at,
-        address: std::num::wrapping_add_u32(s.address, (size % 8) as u32),
-        place: next,
-        goes_on: true,
-    }
-}
-
-fn open_line(out: &mut [u8], s: Looked) -> usize {
-    if s.place == 0 {
-        return s.at;
-    }
-    put(out, s.at, b"\n")
 }
 
 // Why nothing can be shown at an address.
-fn told(out: &mut [u8], at: usize, address: u64, read: Read) -> usize {
-    match read {
-        Read::Value(_) => at,
-        Read::Raises(code) => screen::memory::raises(out, at, address, code),
-        Read::Device => screen::memory::device(out, at, address),
+fn told(s: Looked, shows: u64, code: u64) -> screen::memory::Unit {
+    screen::memory::Unit {
+        begins: 1 + is_open(s.place) % 2,
+        address: s.address as u64,
+        shows,
+        value: code,
+        ends: 0,
     }
 }
 
-fn stopped(out: &mut [u8], s: Looked, read: Read) -> Looked {
-    let at = open_line(out, s);
-    let at = told(out, at, s.address as u64, read);
-    Looked {
-        at,
-        address: s.address,
-        place: 0,
-        goes_on: false,
+fn shown(s: Looked, look: Look, read: Read) -> screen::memory::Unit {
+    match read {
+        Read::Value(value) => valued(s, look, value),
+        Read::Raises(code) => told(s, screen::memory::RAISES, code),
+        Read::Device => told(s, screen::memory::DEVICE, 0),
+    }
+}
+
+fn behind(s: Looked, look: Look, at: usize, read: Read) -> Looked {
+    match read {
+        Read::Value(_) => Looked {
+            at,
+            address: std::num::wrapping_add_u32(s.address, (bytes(unit(look)) % 8) as u32),
+            place: next_place(s, look),
+            goes_on: true,
+        },
+        _ => Looked {
+            at,
+            address: s.address,
+            place: 0,
+            goes_on: false,
+        },
     }
 }
 
@@ -132,10 +168,8 @@ fn read(
 }
 
 fn next(out: &mut [u8], s: Looked, look: Look, read: Read) -> Looked {
-    if let Read::Value(value) = read {
-        return valued(out, s, look, value);
-    }
-    stopped(out, s, read)
+    let at = screen::memory::show(out, s.at, shown(s, look, read));
+    behind(s, look, at, read)
 }
 
 fn one(
@@ -172,27 +206,31 @@ fn all(
     for _k in 0..count {
         s = one(out, s, look, image, execution, bootstrap, ram);
     }
-    open_line(out, s)
+    screen::memory::end(out, s.at, is_open(s.place))
+}
+
+fn count(look: Look) -> u64 {
+    if MOST < look.count {
+        return MOST;
+    }
+    look.count
+}
+
+fn is_cut(look: Look) -> u64 {
+    if MOST < look.count {
+        return 1;
+    }
+    0
 }
 
 pub fn examine(
-    session: &mut [u64; 32],
-    look: Look,
     out: &mut [u8],
+    look: Look,
     image: &[u8],
     execution: &[u8],
     bootstrap: &[u8],
     ram: &[u8],
-) -> u64 {
-    if 0xFFFF_FFFF < look.address {
-        let at = screen::memory::no_address(out, 0);
-        return ask(session, out, at);
-    }
-    if MOST < look.count {
-        let at = all(out, MOST, look, image, execution, bootstrap, ram);
-        let at = screen::memory::cut(out, at);
-        return ask(session, out, at);
-    }
-    let at = all(out, look.count, look, image, execution, bootstrap, ram);
-    ask(session, out, at)
+) -> usize {
+    let at = all(out, count(look), look, image, execution, bootstrap, ram);
+    screen::memory::cut(out, at, is_cut(look))
 }

@@ -30,8 +30,11 @@ loop-less c = search needs
 loop-again : tie.Need-loop-again Inv-loop μ-loop
 loop-again c = search needs
 
-open-line-requires : tie.Need-open-line-requires Inv-loop μ-loop
-open-line-requires c κs = search needs
+is-open-requires : tie.Need-is-open-requires Inv-loop μ-loop
+is-open-requires c κs = search needs
+
+end-requires : tie.Need-end-requires Inv-loop μ-loop
+end-requires c κs = search needs
 
 same-length : tie.Need-same-length Inv-loop μ-loop
 same-length c = search needs
@@ -51,6 +54,7 @@ all-spec =
     add--k
     loop-less
     loop-again
-    open-line-requires
+    is-open-requires
+    end-requires
     same-length
     returns)

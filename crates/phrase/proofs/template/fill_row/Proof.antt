@@ -1,16 +1,16 @@
--- Safe and ending: up to the end of the template, in a buffer that keeps its length.
+-- Safe and ending: up to the end of the table, in a buffer that keeps its length.
 use mathlib.Core.Path.{_≡_}
 use Prim.Native.Nat.{_≤_, _-_}
 use borrow.Author.Needs.{needs}
 use lib.ListN.{length}
-use Rattle.phrase.proofs.template.fill.Statement.{statement}
-use Rattle.phrase.proofs.template.fill.Tie as tie
+use Rattle.phrase.proofs.template.fill_row.Statement.{statement}
+use Rattle.phrase.proofs.template.fill_row.Tie as tie
 
 abbrev Inv-loop : tie.InvT-loop
-Inv-loop out₀ at template values laid₀ i₀ i-end out laid i = (i ≤ length template) × (length out ≡ length out₀)
+Inv-loop out₀ at table row values laid₀ i₀ i-end out laid i = (i ≤ length table) × (length out ≡ length out₀)
 
 abbrev μ-loop : tie.MeasureT-loop
-μ-loop out₀ at template values laid₀ i₀ i-end out laid i = length template - i
+μ-loop out₀ at table row values laid₀ i₀ i-end out laid i = length table - i
 
 loop-holds : tie.Need-loop-holds Inv-loop μ-loop
 loop-holds c = search needs
@@ -36,8 +36,8 @@ same-length c = search needs
 returns : tie.Need-returns Inv-loop μ-loop
 returns c = search needs
 
-pub fill-spec : {M : Type 1} → statement M
-fill-spec =
+pub fill-row-spec : {M : Type 1} → statement M
+fill-row-spec =
     tie.close
     (tie.spec
     Inv-loop

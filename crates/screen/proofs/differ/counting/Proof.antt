@@ -3,8 +3,8 @@ use mathlib.Core.Path.{_≡_}
 use Prim.Native.Nat.{_≤_, _-_}
 use borrow.Author.Needs.{needs}
 use lib.ListN.{length}
-use Rattle.screen.proofs.differ.compared.Statement.{statement}
-use Rattle.screen.proofs.differ.compared.Tie as tie
+use Rattle.screen.proofs.differ.counting.Statement.{statement}
+use Rattle.screen.proofs.differ.counting.Tie as tie
 
 abbrev Inv-loop : tie.InvT-loop
 Inv-loop here there len d₀ i₀ d i = (i ≤ len) × ((len ≤ length here) × (len ≤ length there))
@@ -39,8 +39,8 @@ loop-again c = search needs
 returns : tie.Need-returns Inv-loop μ-loop
 returns c = search needs
 
-pub compared-spec : {M : Type 1} → statement M
-compared-spec =
+pub counting-spec : {M : Type 1} → statement M
+counting-spec =
     tie.close
     (tie.spec
     Inv-loop

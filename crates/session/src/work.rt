@@ -1,0 +1,51 @@
+// What a turn asks of the machine, and what came of it.
+use command::Fresh;
+use screen::blame::Culprit;
+
+// Whose last change is looked for, and whether the machine is to stay before that step.
+pub struct Asked {
+    pub address: u64,
+    pub stay: bool,
+}
+
+// The three parameters of a reset.
+pub struct Settings {
+    pub scale: u64,
+    pub delay: u64,
+    pub installed: u64,
+}
+
+pub enum Work {
+    Nothing,
+    // Whether a station can be made like this.
+    Judge(Fresh),
+    Make(Settings),
+    // The file's bytes are put into RAM at an address.
+    Load(u64),
+    // At most so many steps, and whether they stop at an exception.
+    Run(u64, u64),
+    Back(u64),
+    Blame(Asked),
+}
+
+pub enum Worked {
+    Nothing,
+    Accepted(Fresh),
+    Made,
+    // The bytes, and the address.
+    Loaded(u64, u64),
+    // The bytes of RAM.
+    NoRoom(u64),
+    Ran(u64),
+    // The steps, the last exception and where it was.
+    Excepted(u64, u64, u64),
+    TakenBack(u64),
+    Found(Culprit),
+    Stood(Culprit),
+    // The address, what it holds, and the steps on hand.
+    NoChange(u64, u64, u64),
+    // The bytes of RAM.
+    NoWord(u64),
+    // Document 01's number.
+    Refused(u64),
+}

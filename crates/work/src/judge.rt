@@ -1,0 +1,52 @@
+// new: whether a station can be made, before its files are there.
+use command::Fresh;
+use inquiry::calls;
+use inquiry::calls::Called;
+use session::work::Settings;
+use session::work::Worked;
+
+// Document 01's number; 0 where nothing is refused.
+pub fn refused(answer: Called) -> u64 {
+    match answer {
+        Called::Done(_, _) => 0,
+        Called::Refused(number) => number,
+    }
+}
+
+pub fn reset(image: &mut [u8], s: Settings) -> u64 {
+    refused(calls::reset(image, s.scale, s.delay, s.installed))
+}
+
+// What reset says of the three parameters.
+fn ranges(scale: u64, delay: u64, installed: u64) -> u64 {
+    let mut scratch = [0u8; 501];
+    refused(calls::reset(&mut scratch, scale, delay, installed))
+}
+
+// Rows 1, 3, 4 and 6 of document 01's numbers; 0 where nothing is refused.
+fn number(fresh: Fresh) -> u64 {
+    if fresh.ram < 1 {
+        return 1;
+    }
+    if 4096 < fresh.ram {
+        return 1;
+    }
+    if 65536 < fresh.paper {
+        return 3;
+    }
+    if fresh.paper % 8 != 0 {
+        return 3;
+    }
+    if 65536 < fresh.journal {
+        return 4;
+    }
+    ranges(fresh.scale, fresh.delay, fresh.printers)
+}
+
+pub fn judged(fresh: Fresh) -> Worked {
+    let number = number(fresh);
+    if number != 0 {
+        return Worked::Refused(number);
+    }
+    Worked::Accepted(fresh)
+}

@@ -1,0 +1,31 @@
+// The machine does what a turn asks of it.
+mod judge; // new: whether a station can be made
+mod load; // load
+mod taken_back; // back, reverse-stepi
+mod running; // run, stepi, and what begins with a run: new, blame, before
+mod blame; // blame, before
+
+use crate::judge::judged;
+use crate::running::runs;
+use crate::taken_back::back;
+use session::work::Work;
+use session::work::Worked;
+
+pub fn perform(
+    work: Work,
+    file: &[u8],
+    image: &mut [u8],
+    execution: &[u8],
+    bootstrap: &[u8],
+    ram: &mut [u8],
+    paper: &mut [u8],
+    journal: &mut [u8],
+) -> Worked {
+    match work {
+        Work::Nothing => Worked::Nothing,
+        Work::Judge(fresh) => judged(fresh),
+        Work::Load(address) => load::load(file, image, ram, address),
+        Work::Back(steps) => back(image, ram, paper, journal, steps),
+        _ => runs(work, image, execution, bootstrap, ram, paper, journal),
+    }
+}
