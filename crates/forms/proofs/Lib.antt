@@ -2,3 +2,4 @@ pub mod Best
 pub mod Settings
 pub mod Shapes
 pub mod Making
+pub mod LocalLook

@@ -1,37 +1,22 @@
--- All forms but those of `x` and `xp` read a line only as far as they go; those fail at once where no `x` stands.
-use mathlib.Core.Path.{_≡_, refl, ap, sym, _∙_}
-use mathlib.Core.Bool.{Bool, true, false}
-use mathlib.Core.List.{List, [], _∷_, _++_}
+-- All forms read a line only as far as they go.
+use mathlib.Core.Path.{_≡_, refl}
+use mathlib.Core.Bool.{true, false}
+use mathlib.Core.List.{List, _++_}
 use Prim.Native.Nat.{ℕ, _<_}
 use lib.ListN.{length}
 use Rattle.text.specs.Number.{numberOf}
 use Rattle.text.specs.declared.found.Number.the-variants.{TooLarge}
 use Rattle.piece.specs.Mark.{gapOf, endOf, wordOf, numberIn, nameOf}
 use Rattle.piece.specs.declared.mark.Mark.{Mark}
-use Rattle.piece.proofs.Pieces.{gap-over, end-over, word-over, number-over}
 use Rattle.piece.proofs.Local.{Local, then-local}
 use Rattle.piece.proofs.LocalPieces.{gap-local, end-local, word-local, name-local, number-local}
 use Rattle.forms.specs.Words as words
 use Rattle.forms.specs.Fresh.{afterExecution, afterPrinters, afterDelay, afterScale, afterJournal, afterPaper, afterRam, makingOf}
-use Rattle.forms.specs.Look.{shapeOf, lookingOf}
 use Rattle.forms.specs.Help.{ofMachine, ofStation, helpingOf}
-use Rattle.forms.specs.declared.form.Reading.{Reading}
+use Rattle.forms.proofs.LocalLook.{looking-local}
 use Rattle.command.specs.Table.{loadOf, compareOf, stationOf, runsOf, forwardOf, backwardOf, infosOf, viewsOf, formsOf}
 use Rattle.place.proofs.Settings.{setting-local, file-local}
 use Rattle.place.proofs.Readings.{Keeps, keeps, better-keeps}
-
--- ---- `x`, where no `x` stands
-shape-over : (l : List ℕ) (x : Mark) → x .fits ≡ false → shapeOf l x .mark ≡ x
-unfolding shapeOf
-shape-over l x e = rw (← word-over l x words.slash e, e)
-
-looking-over : (l : List ℕ) (m : Mark) (w : List ℕ) (physical : Bool) → wordOf l m w .fits ≡ false → lookingOf l m w physical .mark ≡ wordOf l m w
-unfolding lookingOf
-looking-over l m w physical e =
-    ap (λ x. endOf l (numberIn l (gapOf l x) .mark)) (shape-over l (wordOf l m w) e)
-    ∙ ap (λ x. endOf l (numberIn l x .mark)) (sym (gap-over l (wordOf l m w) e))
-    ∙ ap (λ n. endOf l (n .mark)) (sym (number-over l (wordOf l m w) e))
-    ∙ sym (end-over l (wordOf l m w) e)
 
 module _ (c t t′ : List ℕ) (none : (at place : ℕ) → numberOf (c ++ t) at ≡ TooLarge place → place < length c → ⊥) where
   plain : (w : List ℕ) → Local c t t′ (λ l m. endOf l (wordOf l m w))
@@ -96,17 +81,10 @@ module _ (c t t′ : List ℕ) (none : (at place : ℕ) → numberOf (c ++ t) at
     unfolding helpingOf
     helping = better-keeps (length c) _ _ _ _ _ (better-keeps (length c) _ _ _ _ _ (keeps (plain words.help) m _ _ refl refl) of-machine) of-station
 
-    -- a form of `x` that fails at its word in both lines
-    seen-not : (w : List ℕ) (physical : Bool) (r r′ : Reading) → r .mark ≡ lookingOf (c ++ t) m w physical .mark → r′ .mark ≡ lookingOf (c ++ t′) m w physical .mark
-        → wordOf (c ++ t) m w .fits ≡ false → wordOf (c ++ t′) m w .fits ≡ false → Keeps (length c) m r r′
-    seen-not w physical r r′ e e′ f f′ =
-        keeps (word-local c t t′ w) m r r′ (e ∙ looking-over (c ++ t) m w physical f) (e′ ∙ looking-over (c ++ t′) m w physical f′)
+    views : Keeps (length c) m (viewsOf (c ++ t) m) (viewsOf (c ++ t′) m)
+    unfolding viewsOf
+    views = better-keeps (length c) _ _ _ _ _ (better-keeps (length c) _ _ _ _ _ (better-keeps (length c) _ _ _ _ _ (better-keeps (length c) _ _ _ _ _ infos (keeps (plain words.paper) m _ _ refl refl)) (keeps (numbered words.paper) m _ _ refl refl)) (keeps (looking-local c t t′ none words.x false) m _ _ refl refl)) (keeps (looking-local c t t′ none words.xp true) m _ _ refl refl)
 
-    module _ (x : (w : List ℕ) → wordOf (c ++ t) m (120 ∷ w) .fits ≡ false) (x′ : (w : List ℕ) → wordOf (c ++ t′) m (120 ∷ w) .fits ≡ false) where
-      views : Keeps (length c) m (viewsOf (c ++ t) m) (viewsOf (c ++ t′) m)
-      unfolding viewsOf
-      views = better-keeps (length c) _ _ _ _ _ (better-keeps (length c) _ _ _ _ _ (better-keeps (length c) _ _ _ _ _ (better-keeps (length c) _ _ _ _ _ infos (keeps (plain words.paper) m _ _ refl refl)) (keeps (numbered words.paper) m _ _ refl refl)) (seen-not words.x false _ _ refl refl (x []) (x′ []))) (seen-not words.xp true _ _ refl refl (x (112 ∷ [])) (x′ (112 ∷ [])))
-
-      pub forms : Keeps (length c) m (formsOf (c ++ t) m) (formsOf (c ++ t′) m)
-      unfolding formsOf
-      forms = better-keeps (length c) _ _ _ _ _ (better-keeps (length c) _ _ _ _ _ (better-keeps (length c) _ _ _ _ _ (better-keeps (length c) _ _ _ _ _ station forward) backward) views) helping
+    pub forms : Keeps (length c) m (formsOf (c ++ t) m) (formsOf (c ++ t′) m)
+    unfolding formsOf
+    forms = better-keeps (length c) _ _ _ _ _ (better-keeps (length c) _ _ _ _ _ (better-keeps (length c) _ _ _ _ _ (better-keeps (length c) _ _ _ _ _ station forward) backward) views) helping

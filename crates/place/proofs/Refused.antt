@@ -1,21 +1,20 @@
 -- Where a line is refused: nothing behind the place matters. Every line that begins with the same bytes, up to and including that at the place, is refused at the
--- same place; so no accepted line begins with them. It is told of lines that do not begin with `x`, in which no number at or before the place is too large.
+-- same place; so no accepted line begins with them. It is told of lines in which no number at or before the place is too large.
 use mathlib.Core.Path.{_≡_, refl, ap, sym, _∙_}
 use mathlib.Core.Bool.{Bool, true, false, cond}
-use mathlib.Core.List.{List, _∷_, _++_}
+use mathlib.Core.List.{List, _++_}
 use Prim.Native.Nat.{ℕ, suc, _+_, _<_}
 use native.Mathlib.Omega.{arith}
-use borrow.Author.Tests.{lt-leb, leb-false, ne-eqb}
-use lib.Dec.{eqb, leb}
-use lib.ListN.{length, getD, take, drop, length-append, take-append-drop}
-use lib.Seq.{drop-cons, length-take-le}
+use borrow.Author.Tests.{lt-leb, leb-false}
+use lib.Dec.{leb}
+use lib.ListN.{length, take, drop, length-append, take-append-drop}
+use lib.Seq.{length-take-le}
 use Rattle.text.specs.Number.{numberOf}
 use Rattle.text.specs.declared.found.Number.the-variants.{TooLarge}
 use Rattle.text.proofs.Common.{behind-same}
-use Rattle.piece.specs.Mark.{goesOn, failsAt, standsOf, agreedOf, isSpace, behindSpaces, wordFrom, wordOf}
+use Rattle.piece.specs.Mark.{standsOf, isSpace, behindSpaces}
 use Rattle.piece.specs.declared.mark.Mark.{Mark}
 use Rattle.piece.proofs.Common.{stands-same}
-use Rattle.piece.proofs.Agreed.{stands-there}
 use Rattle.forms.specs.declared.form.Form.{Form}
 use Rattle.forms.specs.declared.form.Form.the-variants.{New, Load, Compare, Save, Restore, Quit, Abandon, Run, RunToException, Step, Back, Blame, Before, Registers, Cp0, Tlb, Clocks, Printers, Station, Paper, Papers, Examine, Physical, Help}
 use Rattle.command.specs.Table.{formsOf}
@@ -101,28 +100,14 @@ missed l p e =
         absurd (omega arith)
     go false ea false eb false ef h = record { inside = leb-false _ _ ea; begun = eb; fits = ef; reached = omega arith }
 
--- a word that begins with another byte than the line
-first-fails : (l : List ℕ) (s b : ℕ) (w : List ℕ) → s < length l → standsOf l s b ≡ false → wordOf l (startOf s) (b ∷ w) .fits ≡ false
-unfolding wordOf agreedOf
-first-fails l s b w h e =
-    let other : eqb (getD l s 0) b ≡ false = sym (stands-there l s b h) ∙ e in
-    let none : agreedOf (b ∷ w) (drop s l) ≡ 0 =
-    ap (agreedOf (b ∷ w)) (drop-cons l s 0 h) ∙ ap (λ x. cond x (suc (agreedOf w (drop (suc s) l))) 0) other in
-    ap (λ k. (wordFrom (startOf s) (b ∷ w) k) .fits) none
-    ∙ ap (λ x. (cond x (goesOn (startOf s) (s + 0)) (failsAt (startOf s) (s + 0))) .fits) (ne-eqb 0 (suc (length w)) (λ z. omega arith))
-
 module _ (c t t′ : List ℕ) (p : ℕ) (none : (at place : ℕ) → numberOf (c ++ t) at ≡ TooLarge place → place < length c → ⊥) where
   -- from the first byte on: s is its place
-  module _ (s : ℕ) (h : Missed (c ++ t) s p) (l : p < length c) (x : standsOf (c ++ t) s 120 ≡ false) (within : s < length c) where
+  module _ (s : ℕ) (h : Missed (c ++ t) s p) (l : p < length c) (within : s < length c) where
     inside : (u : List ℕ) → s < length (c ++ u)
     inside u = omega (arith, length-append c u, within)
 
     same-mark : formsOf (c ++ t′) (startOf s) .mark ≡ formsOf (c ++ t) (startOf s) .mark
-    same-mark =
-        forms c t t′ none (startOf s)
-        (λ w. first-fails (c ++ t) s 120 w (inside t) x)
-        (λ w. first-fails (c ++ t′) s 120 w (inside t′) (stands-same c t t′ s 120 within ∙ x))
-        .told (h .fits) (rw (h .reached) l)
+    same-mark = forms c t t′ none (startOf s) .told (h .fits) (rw (h .reached) l)
 
     said : saidOf (c ++ t′) (startOf s) (formsOf (c ++ t′) (startOf s)) ≡ command.Refused p
     said =
@@ -139,23 +124,20 @@ module _ (c t t′ : List ℕ) (p : ℕ) (none : (at place : ℕ) → numberOf (
         ∙ said
 
   -- the law
-  pub refused-stays : commandOf (c ++ t) ≡ command.Refused p → p < length c → standsOf (c ++ t) (behindSpaces (c ++ t) 0) 120 ≡ false → commandOf (c ++ t′) ≡ command.Refused p
-  refused-stays e l x =
+  pub refused-stays : commandOf (c ++ t) ≡ command.Refused p → p < length c → commandOf (c ++ t′) ≡ command.Refused p
+  refused-stays e l =
       let h : Missed (c ++ t) (behindSpaces (c ++ t) 0) p = missed (c ++ t) p e in
-      let no-x : (w : List ℕ) → wordOf (c ++ t) (startOf (behindSpaces (c ++ t) 0)) (120 ∷ w) .fits ≡ false = λ w. first-fails (c ++ t) (behindSpaces (c ++ t) 0) 120 w (h .inside) x in
-      let within : behindSpaces (c ++ t) 0 < length c = forms c t t none (startOf (behindSpaces (c ++ t) 0)) no-x no-x .begun (h .fits) (rw (h .reached) l) .there refl in
-      from-start (behindSpaces (c ++ t) 0) h l x within (ap (λ n. 0 + n) (behind-same c t t′ isSpace 0 within))
+      let within : behindSpaces (c ++ t) 0 < length c = forms c t t none (startOf (behindSpaces (c ++ t) 0)) .begun (h .fits) (rw (h .reached) l) .there refl in
+      from-start (behindSpaces (c ++ t) 0) h l within (ap (λ n. 0 + n) (behind-same c t t′ isSpace 0 within))
 
 -- said of the line itself: none that begins with its bytes up to and including that at the place is accepted
 pub refused-at : (line : List ℕ) (p : ℕ) → commandOf line ≡ command.Refused p → p < length line
     → ((at place : ℕ) → numberOf line at ≡ TooLarge place → p < place)
-    → standsOf line (behindSpaces line 0) 120 ≡ false
     → (t : List ℕ) → commandOf (take (suc p) line ++ t) ≡ command.Refused p
-refused-at line p e l none x t =
+refused-at line p e l none t =
     let whole : take (suc p) line ++ drop (suc p) line ≡ line = take-append-drop (suc p) line in
     let long : length (take (suc p) line) ≡ suc p = length-take-le (suc p) line l in
     refused-stays (take (suc p) line) (drop (suc p) line) t p
     (λ at place h k. (let far : p < place = none at place (ap (λ s. numberOf s at) (sym whole) ∙ h) in omega arith))
     (ap commandOf whole ∙ e)
     (omega arith)
-    (ap (λ s. standsOf s (behindSpaces s 0) 120) whole ∙ x)

@@ -10,3 +10,4 @@ pub mod Whole
 pub mod RoundTrip
 pub mod Common
 pub mod Beginnings
+pub mod Decimals
