@@ -31,31 +31,28 @@ none : List ℕ → Mark → Mark
 none l m = m
 
 module _ (l : List ℕ) (m : Mark) where
-  faced : (b : ℕ) (other : List ℕ → Mark → Mark) (x y : Faced) → x .mark ≡ wordOf l m (b ∷ []) → y .mark ≡ other l m
-      → (cond (wordOf l m (b ∷ []) .fits) x y) .mark ≡ letterOr b other l m
+  lettered : {A : Type 0} (markOf : A → Mark) (b : ℕ) (other : List ℕ → Mark → Mark) (x y : A) → markOf x ≡ wordOf l m (b ∷ []) → markOf y ≡ other l m
+      → markOf (cond (wordOf l m (b ∷ []) .fits) x y) ≡ letterOr b other l m
   unfolding letterOr
-  faced b other x y e d = go (wordOf l m (b ∷ []) .fits)
+  lettered markOf b other x y e d = go (wordOf l m (b ∷ []) .fits)
     where
-      go : (z : Bool) → (cond z x y) .mark ≡ cond z (wordOf l m (b ∷ [])) (other l m)
+      go : (z : Bool) → markOf (cond z x y) ≡ cond z (wordOf l m (b ∷ [])) (other l m)
       go true = e
       go false = d
 
   format-is : formatOf l m .mark ≡ letterOr 120 (letterOr 100 (letterOr 117 (letterOr 99 none))) l m
   unfolding formatOf none
-  format-is = faced 120 _ _ _ refl (faced 100 _ _ _ refl (faced 117 _ _ _ refl (faced 99 _ _ _ refl refl)))
-
-  sized : (b : ℕ) (other : List ℕ → Mark → Mark) (x y : Sized) → x .mark ≡ wordOf l m (b ∷ []) → y .mark ≡ other l m
-      → (cond (wordOf l m (b ∷ []) .fits) x y) .mark ≡ letterOr b other l m
-  unfolding letterOr
-  sized b other x y e d = go (wordOf l m (b ∷ []) .fits)
+  format-is = lettered markIn 120 _ _ _ refl (lettered markIn 100 _ _ _ refl (lettered markIn 117 _ _ _ refl (lettered markIn 99 _ _ _ refl refl)))
     where
-      go : (z : Bool) → (cond z x y) .mark ≡ cond z (wordOf l m (b ∷ [])) (other l m)
-      go true = e
-      go false = d
+      markIn : Faced → Mark
+      markIn x = x .mark
 
   unit-is : unitOf l m .mark ≡ letterOr 98 (letterOr 104 (letterOr 119 none)) l m
   unfolding unitOf none
-  unit-is = sized 98 _ _ _ refl (sized 104 _ _ _ refl (sized 119 _ _ _ refl refl))
+  unit-is = lettered markIn 98 _ _ _ refl (lettered markIn 104 _ _ _ refl (lettered markIn 119 _ _ _ refl refl))
+    where
+      markIn : Sized → Mark
+      markIn x = x .mark
 
 -- ---- a count, or none
 ranOf : ℕ → Number → Outcome
