@@ -15,7 +15,7 @@ if [ $# -lt 1 ] || [ $# -gt 2 ]; then
     exit 2
 fi
 . "$(dirname "$0")/../tests/archive.sh"
-use_archive "$1"
+use_archive lavushmir "$1"
 shift
 cd "$(dirname "$0")"
 if [ "$(uname -m)" = aarch64 ]; then

@@ -18,7 +18,7 @@ trap 'rm -rf "$copy"' EXIT
 
 mkdir -p "$copy/lines"
 cp -R "$here/../common" "$here/../archive.sh" "$copy"
-cp -R "$here/src" "$here/Cargo.toml" "$here/Cargo.lock" "$here/build.rs" "$here/run.sh" "$copy/lines"
+cp -R "$here/src" "$here/Cargo.toml" "$here/Cargo.lock" "$here/run.sh" "$copy/lines"
 src=$copy/lines/src/lines.rs
 cp "$src" "$copy/saved"
 

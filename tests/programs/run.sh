@@ -14,7 +14,7 @@ if [ $# -lt 1 ] || [ $# -gt 2 ]; then
     exit 2
 fi
 . "$(dirname "$0")/../archive.sh"
-use_archive "$1"
+use_archive lavushmir "$1"
 shift
 folder=$(mktemp -d)
 trap 'rm -rf "$folder"' EXIT

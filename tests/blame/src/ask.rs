@@ -17,7 +17,7 @@ pub struct Kept([Vec<u8>; 4]);
 impl Kept {
     pub fn of(world: &World) -> Kept {
         let panel = &world.session.panel;
-        let buffers = [&panel.image, &panel.ram, &panel.paper, &panel.journal];
+        let buffers = [&panel.lent.image, &panel.lent.ram, &panel.lent.paper, &panel.lent.journal];
         Kept(buffers.map(|buffer| buffer.content().to_vec()))
     }
 
@@ -31,7 +31,7 @@ impl Kept {
     }
 
     pub fn check_journal(&self, world: &World, line: &str) {
-        assert!(world.session.panel.journal.content() == self.0[3], "journal after {line}");
+        assert!(world.session.panel.lent.journal.content() == self.0[3], "journal after {line}");
     }
 }
 
@@ -231,7 +231,7 @@ fn again(
 ) {
     let place = (address - u64::from(RAM_BASE)) as usize;
     let word = |world: &World| {
-        let bytes = &world.session.panel.ram.content()[place..][..4];
+        let bytes = &world.session.panel.lent.ram.content()[place..][..4];
         u32::from_le_bytes(bytes.try_into().expect("four bytes"))
     };
     assert_eq!(word(world), change.old, "the word just before the step");

@@ -11,6 +11,8 @@ mod asm;
 mod dice;
 #[path = "../../common/guarded.rs"]
 mod guarded;
+#[path = "../../common/lent.rs"]
+mod lent;
 
 mod ask;
 mod faults;

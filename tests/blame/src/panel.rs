@@ -1,6 +1,7 @@
 //! The panel's turn on the buffers of one station, each between guard bytes.
 
 use crate::guarded::Guarded;
+use crate::lent::Lent;
 
 pub const IMAGE_BYTES: usize = 501;
 const SESSION_WORDS: usize = 32;
@@ -66,12 +67,7 @@ extern "C" {
 pub struct Panel {
     session: [u64; SESSION_WORDS + 2],
     out: Guarded,
-    pub image: Guarded,
-    pub execution: Guarded,
-    pub bootstrap: Guarded,
-    pub ram: Guarded,
-    pub paper: Guarded,
-    pub journal: Guarded,
+    pub lent: Lent,
 }
 
 /// What a turn answers, with what it shows.
@@ -97,16 +93,15 @@ fn wants(number: u64) -> Wants {
 impl Panel {
     pub fn new(execution: &[u8], bootstrap: &[u8]) -> Panel {
         let nothing = || Guarded::new(&[]);
-        Panel {
-            session: [GUARD; SESSION_WORDS + 2],
-            out: Guarded::new(&[0; OUT_BYTES]),
+        let lent = Lent {
             image: Guarded::new(&[0; IMAGE_BYTES]),
             execution: Guarded::new(execution),
             bootstrap: Guarded::new(bootstrap),
             ram: nothing(),
             paper: nothing(),
             journal: nothing(),
-        }
+        };
+        Panel { session: [GUARD; SESSION_WORDS + 2], out: Guarded::new(&[0; OUT_BYTES]), lent }
     }
 
     /// The words of a session that has not begun.
@@ -124,6 +119,7 @@ impl Panel {
 
     pub fn turn(&mut self, event: Event, input: &[u8]) -> Turn {
         let input = Guarded::new(input);
+        let lent = &mut self.lent;
         // SAFETY: each pointer and length are those of one live slice; those
         // that are written are slices of their own.
         let answer = unsafe {
@@ -134,18 +130,18 @@ impl Panel {
                 input.len(),
                 self.out.content_mut().as_mut_ptr(),
                 self.out.len(),
-                self.image.content_mut().as_mut_ptr(),
-                self.image.len(),
-                self.execution.content().as_ptr(),
-                self.execution.len(),
-                self.bootstrap.content().as_ptr(),
-                self.bootstrap.len(),
-                self.ram.content_mut().as_mut_ptr(),
-                self.ram.len(),
-                self.paper.content_mut().as_mut_ptr(),
-                self.paper.len(),
-                self.journal.content_mut().as_mut_ptr(),
-                self.journal.len(),
+                lent.image.content_mut().as_mut_ptr(),
+                lent.image.len(),
+                lent.execution.content().as_ptr(),
+                lent.execution.len(),
+                lent.bootstrap.content().as_ptr(),
+                lent.bootstrap.len(),
+                lent.ram.content_mut().as_mut_ptr(),
+                lent.ram.len(),
+                lent.paper.content_mut().as_mut_ptr(),
+                lent.paper.len(),
+                lent.journal.content_mut().as_mut_ptr(),
+                lent.journal.len(),
             )
         };
         assert_eq!(input.touched(), None, "the line");
@@ -162,14 +158,8 @@ impl Panel {
     }
 
     fn check_guards(&self) {
-        for (name, rom) in [("execution ROM", &self.execution), ("bootstrap ROM", &self.bootstrap)]
-        {
-            assert_eq!(rom.touched(), None, "{name}");
-        }
-        let written = [&self.out, &self.image, &self.ram, &self.paper, &self.journal];
-        for buffer in written {
-            assert_eq!(buffer.guards_hurt(), None);
-        }
+        assert_eq!(self.lent.wrong(), None);
+        assert_eq!(self.out.guards_hurt(), None, "the screen");
         let ends = (self.session[0], self.session[SESSION_WORDS + 1]);
         assert_eq!(ends, (GUARD, GUARD), "words beside the session's were written");
     }

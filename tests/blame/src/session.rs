@@ -93,8 +93,8 @@ impl Session {
 
     fn make(&mut self) {
         let zeros = |length: u64| Guarded::new(&vec![0; length as usize]);
-        self.panel.ram = zeros(self.panel.word(RAM_BYTES));
-        self.panel.paper = zeros(self.panel.word(PAPER_BYTES));
-        self.panel.journal = zeros(self.panel.word(JOURNAL_BYTES));
+        self.panel.lent.ram = zeros(self.panel.word(RAM_BYTES));
+        self.panel.lent.paper = zeros(self.panel.word(PAPER_BYTES));
+        self.panel.lent.journal = zeros(self.panel.word(JOURNAL_BYTES));
     }
 }

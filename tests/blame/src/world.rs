@@ -67,7 +67,7 @@ fn made(panel: Panel, manner: Manner, plan: &Plan, sizes: &Sizes) -> (Session, P
     reset(&mut image, 1, u64::from(*delay), u64::from(*installed));
     let ram = vec![0; plan.frames as usize * FRAME];
     let paper = vec![0; *paper as usize];
-    let roms = [session.panel.execution.content(), session.panel.bootstrap.content()];
+    let roms = [session.panel.lent.execution.content(), session.panel.lent.bootstrap.content()];
     let past = Past::new(decode(&image), &ram, &paper, roms, u64::from(*slots));
     (session, past)
 }
@@ -100,11 +100,11 @@ fn saved(
         }
     }
     let paper = dice.bytes(sizes.paper as usize);
-    panel.image = Guarded::new(&image);
-    panel.ram = Guarded::new(&ram);
-    panel.paper = Guarded::new(&paper);
-    panel.journal = Guarded::new(&dice.bytes(sizes.slots as usize * RECORD_BYTES));
-    let roms = [panel.execution.content(), panel.bootstrap.content()];
+    panel.lent.image = Guarded::new(&image);
+    panel.lent.ram = Guarded::new(&ram);
+    panel.lent.paper = Guarded::new(&paper);
+    panel.lent.journal = Guarded::new(&dice.bytes(sizes.slots as usize * RECORD_BYTES));
+    let roms = [panel.lent.execution.content(), panel.lent.bootstrap.content()];
     let past = Past::new(machine, &ram, &paper, roms, u64::from(sizes.slots));
     (Session::open(panel, manner, true), past)
 }
@@ -145,7 +145,7 @@ impl World {
         let said = self.session.say_with(&line, bytes);
         assert!(said.screen.starts_with("Loaded "), "{line}:\n{}", said.screen);
         // Of an empty journal any slot may be the next.
-        let next_slot = u64::from(decode(self.session.panel.image.content()).next_slot);
+        let next_slot = u64::from(decode(self.session.panel.lent.image.content()).next_slot);
         assert!(next_slot < self.past.slots.max(1), "{line}: next slot {next_slot}");
         self.past.load(place, bytes, next_slot);
         self.check(&line);
@@ -155,10 +155,11 @@ impl World {
     pub fn check(&self, when: &str) {
         let panel = &self.session.panel;
         let image = self.past.image();
-        let differ = panel.image.content().iter().zip(&image).position(|(now, due)| now != due);
+        let differ =
+            panel.lent.image.content().iter().zip(&image).position(|(now, due)| now != due);
         assert_eq!(differ, None, "the first byte of the image that differs, after {when}");
-        assert!(panel.ram.content() == self.past.ram(), "RAM, after {when}");
-        assert!(panel.paper.content() == self.past.paper(), "the paper, after {when}");
+        assert!(panel.lent.ram.content() == self.past.ram(), "RAM, after {when}");
+        assert!(panel.lent.paper.content() == self.past.paper(), "the paper, after {when}");
     }
 
     /// A new session on the same buffers, as behind a save.

@@ -20,20 +20,20 @@ fn flip(bytes: &mut [u8]) {
 
 fn step_back(world: &mut World) {
     let panel = &mut world.session.panel;
-    let journal = panel.journal.content().to_vec();
-    let (image, ram) = (panel.image.content_mut(), panel.ram.content_mut());
-    take_back(image, ram, panel.paper.content_mut(), &journal, 1);
+    let journal = panel.lent.journal.content().to_vec();
+    let (image, ram) = (panel.lent.image.content_mut(), panel.lent.ram.content_mut());
+    take_back(image, ram, panel.lent.paper.content_mut(), &journal, 1);
 }
 
 fn step_on(world: &mut World) {
     let panel = &mut world.session.panel;
     run_with_records(
-        panel.image.content_mut(),
-        panel.execution.content(),
-        panel.bootstrap.content(),
-        panel.ram.content_mut(),
-        panel.paper.content_mut(),
-        panel.journal.content_mut(),
+        panel.lent.image.content_mut(),
+        panel.lent.execution.content(),
+        panel.lent.bootstrap.content(),
+        panel.lent.ram.content_mut(),
+        panel.lent.paper.content_mut(),
+        panel.lent.journal.content_mut(),
         1,
         0,
     );
@@ -45,10 +45,10 @@ impl Fault {
         let panel = &mut world.session.panel;
         match self {
             Fault::BlameStaysBack => step_back(world),
-            Fault::BlameWritesImage => flip(panel.image.content_mut()),
-            Fault::BlameWritesRam => flip(panel.ram.content_mut()),
-            Fault::BlameWritesPaper => flip(panel.paper.content_mut()),
-            Fault::BlameWritesJournal => flip(panel.journal.content_mut()),
+            Fault::BlameWritesImage => flip(panel.lent.image.content_mut()),
+            Fault::BlameWritesRam => flip(panel.lent.ram.content_mut()),
+            Fault::BlameWritesPaper => flip(panel.lent.paper.content_mut()),
+            Fault::BlameWritesJournal => flip(panel.lent.journal.content_mut()),
             _ => {}
         }
     }
@@ -65,7 +65,7 @@ impl Fault {
             }
             Blame::Refused { .. } => {
                 if self == Fault::BeforeRefusedWrites {
-                    flip(world.session.panel.ram.content_mut());
+                    flip(world.session.panel.lent.ram.content_mut());
                 }
                 return;
             }
@@ -95,14 +95,14 @@ impl Fault {
             Fault::BeforeOneStepLate => step_on(world),
             Fault::BeforeOneStepEarly => step_back(world),
             Fault::BeforeKeepsOnHand => {
-                panel.image.content_mut()[ON_HAND..][..4].copy_from_slice(&past_on_hand)
+                panel.lent.image.content_mut()[ON_HAND..][..4].copy_from_slice(&past_on_hand)
             }
             Fault::BeforeKeepsNextSlot => {
-                panel.image.content_mut()[NEXT_SLOT..][..4].copy_from_slice(&past_next)
+                panel.lent.image.content_mut()[NEXT_SLOT..][..4].copy_from_slice(&past_next)
             }
-            Fault::BeforeKeepsRam => panel.ram.content_mut().copy_from_slice(&ram),
-            Fault::BeforeKeepsPaper => panel.paper.content_mut().copy_from_slice(&paper),
-            Fault::BeforeWritesJournal => flip(panel.journal.content_mut()),
+            Fault::BeforeKeepsRam => panel.lent.ram.content_mut().copy_from_slice(&ram),
+            Fault::BeforeKeepsPaper => panel.lent.paper.content_mut().copy_from_slice(&paper),
+            Fault::BeforeWritesJournal => flip(panel.lent.journal.content_mut()),
             _ => {}
         }
     }

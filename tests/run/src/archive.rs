@@ -4,18 +4,10 @@
 use crate::call::{Call, Outcome};
 use crate::guarded::Guarded;
 use crate::lavushmir;
-
-/// The six buffers of a call, lent to the archive again and again.
-pub struct Lent {
-    pub image: Guarded,
-    pub execution: Guarded,
-    pub bootstrap: Guarded,
-    pub ram: Guarded,
-    pub paper: Guarded,
-    pub journal: Guarded,
-}
+use crate::lent::Lent;
 
 impl Lent {
+    /// Lent to the archive again and again.
     pub fn new(call: &Call) -> Lent {
         Lent {
             image: Guarded::new(&call.image),
@@ -39,30 +31,13 @@ impl Lent {
             budget,
             stop,
         );
-        match self.wrong() {
-            None => Ok(answer),
-            Some((name, what)) => Err(format!("{name}: {what}")),
-        }
-    }
-
-    fn wrong(&self) -> Option<(&'static str, String)> {
-        let found = [
-            ("execution ROM", self.execution.touched()),
-            ("bootstrap ROM", self.bootstrap.touched()),
-            ("image", self.image.guards_hurt()),
-            ("RAM", self.ram.guards_hurt()),
-            ("paper", self.paper.guards_hurt()),
-            ("journal", self.journal.guards_hurt()),
-        ];
-        found.into_iter().find_map(|(name, wrong)| wrong.map(|what| (name, what)))
+        self.wrong().map_or(Ok(answer), Err)
     }
 
     /// What a refused call has to leave: every byte of every buffer.
     pub fn any_touched(&self) -> Option<String> {
         let all = [&self.image, &self.ram, &self.paper, &self.journal];
-        self.wrong()
-            .map(|(name, what)| format!("{name}: {what}"))
-            .or_else(|| all.iter().find_map(|buffer| buffer.touched()))
+        self.wrong().or_else(|| all.iter().find_map(|buffer| buffer.touched()))
     }
 
     pub fn outcome(&self, answer: u64) -> Outcome {

@@ -16,6 +16,8 @@ mod guarded;
 #[allow(dead_code)]
 #[path = "../../common/lavushmir.rs"]
 mod lavushmir;
+#[path = "../../common/lent.rs"]
+mod lent;
 #[allow(dead_code)]
 #[path = "../../calls/src/report.rs"]
 mod report;

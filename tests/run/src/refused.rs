@@ -1,10 +1,10 @@
 //! One call that is to be refused, or to be done though its neighbours are not.
 
-use crate::archive::Lent;
 use crate::call::Call;
 use crate::dice::Dice;
 use crate::difference::explain;
 use crate::lengths::Lengths;
+use crate::lent::Lent;
 use crate::pool::Pool;
 use crate::report::different;
 use crate::scene::STOPS;
