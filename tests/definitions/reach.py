@@ -19,7 +19,7 @@ import sys
 # What the public calls and the theorems over them state. Everything that a reader must believe is reached from here.
 STATEMENTS = [
     "runLeaves", "backLeaves", "resetAnswer", "resetImage", "romAnswer", "windowOf", "packedOf",
-    "ResetIs", "buffersOf", "buffersBack", "PackedResetIs", "PackedIs",
+    "ResetIs", "buffersOf", "buffersBack", "PackedResetIs", "PackedIs", "Unchanged",
     "Booted", "demand3.calledAll", "TakesBack", "marked",
     "Claim", "EachClaim", "RunClaim",
     "lastChangeOf", "newestAtOf", "oldestAtOf", "Tells", "pcsAgo", "agoIn",

@@ -19,8 +19,6 @@ abbrev pub leftBy : Test → Left → Buffers → Left
 leftBy Passed done buffers = done
 leftBy (Failed refusal) done buffers = leftOf (Refused refusal) buffers
 
--- ---- aids to proofs: nothing that a reader must believe
-
 -- every byte is as it was, and no step was run or taken back
 pub record Unchanged (left : Left) (buffers : Buffers) : Type 0 where
   pub same : left .buffers ≡ buffers
