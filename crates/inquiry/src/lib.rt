@@ -1,5 +1,3 @@
-// What a session asks of the machine that is lent to it.
-pub mod calls; // the machine's public calls
+// What the machine would read, and where an address lands, by the machine of an image.
 pub mod address; // where an address lands
 pub mod reading; // what the machine would read there
-pub mod culprit; // the step that changed a word

@@ -1,12 +1,12 @@
 // blame and before: the step that last changed a word of RAM is named, or the machine is stood just before it.
+use crate::calls;
+use crate::calls::Called;
+use crate::culprit::Step;
+use crate::culprit::Word;
+use crate::culprit::seen;
+use crate::culprit::sought;
+use crate::culprit::word_of_ram;
 use crate::judge::refused;
-use inquiry::calls;
-use inquiry::calls::Called;
-use inquiry::culprit::Step;
-use inquiry::culprit::Word;
-use inquiry::culprit::seen;
-use inquiry::culprit::sought;
-use inquiry::culprit::word_of_ram;
 use inquiry::reading::word_at;
 use screen::blame::Culprit;
 use screen::image;

@@ -1,7 +1,7 @@
 // new: whether a station can be made, before its files are there.
+use crate::calls;
+use crate::calls::Called;
 use command::Fresh;
-use inquiry::calls;
-use inquiry::calls::Called;
 use session::work::Settings;
 use session::work::Worked;
 

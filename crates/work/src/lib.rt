@@ -1,4 +1,6 @@
 // The machine does what a turn asks of it.
+mod calls; // the machine's public calls
+mod culprit; // the step that changed a word
 mod judge; // new: whether a station can be made
 mod load; // load
 mod taken_back; // back, reverse-stepi

@@ -1,10 +1,10 @@
 // run, stepi: some steps, until an exception stops them. A run of no steps judges the machine, before new, blame and before.
 use crate::blame::search;
+use crate::calls;
+use crate::calls::Called;
+use crate::culprit::Word;
+use crate::culprit::word_of_ram;
 use crate::judge::reset;
-use inquiry::calls;
-use inquiry::calls::Called;
-use inquiry::culprit::Word;
-use inquiry::culprit::word_of_ram;
 use screen::image;
 use session::work::Asked;
 use session::work::Settings;

@@ -1,6 +1,6 @@
 // back, reverse-stepi: some of the newest steps are taken back.
-use inquiry::calls;
-use inquiry::calls::Called;
+use crate::calls;
+use crate::calls::Called;
 use session::work::Worked;
 
 fn told(answer: Called) -> Worked {

@@ -1,5 +1,5 @@
 // The step that last changed a word of RAM: who it is, and standing just before it.
-use crate::reading::instruction;
+use inquiry::reading::instruction;
 use screen::blame::Culprit;
 use screen::image;
 use seek::Sought;
