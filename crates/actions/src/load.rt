@@ -1,14 +1,13 @@
 // load and compare: a file is wanted, or another station, by its name.
-use crate::plan::Plan;
-use crate::plan::turns;
-use crate::plan::works;
-use command::Span;
-use screen::message;
+use forms::kinds::Span;
 use session::answer::FILE;
 use session::answer::FILE_TROUBLE;
 use session::answer::OTHER;
 use session::answer::Then;
 use session::event::FILE_READ;
+use session::plan::Plan;
+use session::plan::turns;
+use session::plan::works;
 use session::turn::Turn;
 use session::turn::quietly;
 use session::turn::says;

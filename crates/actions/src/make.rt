@@ -1,13 +1,12 @@
 // new: a station is made, in two turns. The sizes are judged first; then the files are there, and the machine is reset.
-use crate::plan::Plan;
-use crate::plan::turns;
-use crate::plan::works;
-use command::Fresh;
-use screen::message;
+use forms::kinds::Fresh;
 use session::answer::FILE_TROUBLE;
 use session::answer::MAKE;
 use session::answer::REFUSED;
 use session::answer::Then;
+use session::plan::Plan;
+use session::plan::turns;
+use session::plan::works;
 use session::turn::Turn;
 use session::turn::quietly;
 use session::turn::says;

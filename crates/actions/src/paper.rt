@@ -1,5 +1,4 @@
 // paper: what the printers printed, one printer in a turn.
-use screen::message;
 use session::answer::GO_ON;
 use session::answer::REFUSED;
 use session::answer::Then;

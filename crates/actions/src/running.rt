@@ -1,12 +1,11 @@
 // run, stepi: at most 100,000 steps in a turn, until as many as asked for are run, an exception stops them, or Ctrl-C comes.
-use crate::plan::Plan;
-use crate::plan::turns;
-use crate::plan::works;
-use screen::message;
-use screen::message::Message;
+use message::Message;
 use session::answer::GO_ON;
 use session::answer::Then;
 use session::event::INTERRUPT;
+use session::plan::Plan;
+use session::plan::turns;
+use session::plan::works;
 use session::turn::Turn;
 use session::turn::quietly;
 use session::turn::says;

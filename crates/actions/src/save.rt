@@ -1,5 +1,4 @@
 // save, quit, restore: what is kept, and the end of a session.
-use screen::message;
 use session::answer::FILE_TROUBLE;
 use session::answer::RESTORE;
 use session::answer::SAVE;

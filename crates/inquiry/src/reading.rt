@@ -3,7 +3,7 @@ use crate::address::on_bus;
 use crate::address::through_table;
 use board::places::Place;
 use board::places::Sizes;
-use command::Unit;
+use forms::kinds::Unit;
 use reach::Reached;
 use reach::access::Access;
 use reach::access::Kind;
@@ -128,7 +128,7 @@ pub fn instruction(image: &[u8], execution: &[u8], bootstrap: &[u8], ram: &[u8])
         kind: Kind::Fetch,
         width: Width::Four,
     };
-    let pc = (screen::image::word(image, screen::image::PC) % 0x1_0000_0000) as u32;
+    let pc = (image::word(image, image::PC) % 0x1_0000_0000) as u32;
     let reached = through_table(image, access, sizes(execution, bootstrap, ram), pc);
     let read = by_reached(reached, Unit::Word, execution, bootstrap, ram);
     match read {

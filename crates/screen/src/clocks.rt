@@ -1,5 +1,4 @@
 // info clocks.
-use crate::image;
 use phrase::template::eight;
 use phrase::template::fill_row;
 

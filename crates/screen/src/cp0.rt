@@ -1,5 +1,4 @@
 // info cp0: each register of coprocessor 0, with its fields in words.
-use crate::image;
 use phrase::template::eight;
 use phrase::template::fill_row;
 

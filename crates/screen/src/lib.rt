@@ -1,12 +1,8 @@
 // What a person sees. Each function lays text into a lent buffer from a place on, and answers the place behind it. A screen has at most 80 columns.
-pub mod image; // the state image's words at their places
 pub mod tables; // info registers, info tlb, info printers
 pub mod cp0; // info cp0
 pub mod clocks; // info clocks
 pub mod sizes; // info station
 pub mod paper; // what a printer printed
-pub mod message; // what is said of what was done or refused
-pub mod blame; // who changed a word
 pub mod bad; // a line that is no command
 pub mod memory; // x: a unit of memory
-pub mod differ; // in what two stations differ

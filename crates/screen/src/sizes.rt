@@ -1,5 +1,4 @@
 // info station: how large everything is that the station has.
-use crate::image;
 use phrase::template::eight;
 use phrase::template::fill_row;
 

@@ -1,5 +1,4 @@
 // info registers, info tlb, info printers: a heading, some rows, and what stands below them.
-use crate::image;
 use phrase::template::fill_row;
 use phrase::template::four;
 

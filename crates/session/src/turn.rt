@@ -1,9 +1,9 @@
 // What a turn does: what a person is shown, and how it ends.
 use crate::answer::Then;
-use command::Look;
-use command::Topic;
-use screen::message::Message;
-use screen::message::with;
+use forms::kinds::Look;
+use forms::kinds::Topic;
+use message::Message;
+use message::with;
 
 pub enum View {
     Said(Message),
@@ -38,7 +38,7 @@ pub fn tells(row: u64, then: Then) -> Turn {
 }
 
 pub fn quietly(then: Then) -> Turn {
-    tells(screen::message::NOTHING, then)
+    tells(message::NOTHING, then)
 }
 
 pub fn shows(view: View) -> Turn {

@@ -1,6 +1,6 @@
 // What a turn asks of the machine, and what came of it.
-use command::Fresh;
-use screen::blame::Culprit;
+use forms::kinds::Fresh;
+use message::blame::Culprit;
 
 // Whose last change is looked for, and whether the machine is to stay before that step.
 pub struct Asked {

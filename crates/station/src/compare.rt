@@ -1,5 +1,4 @@
 // compare: in what another station differs. The C side has loaded it.
-use screen::differ;
 use session::answer::Then;
 use session::answer::answer;
 

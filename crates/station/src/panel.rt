@@ -1,6 +1,6 @@
 // One turn of a session: it is planned, the machine works, the session goes on, and a person is shown what came of it.
-use actions::after::after;
-use actions::plan::planned;
+use dispatch::after::after;
+use dispatch::plan::planned;
 use screen::sizes::Lengths;
 use session::answer::answer;
 use views::show;

@@ -1,7 +1,7 @@
 // x, xp: some units of memory, as the machine sees them now or by their physical address.
-use command::Format;
-use command::Look;
-use command::Unit;
+use forms::kinds::Format;
+use forms::kinds::Look;
+use forms::kinds::Unit;
 use inquiry::reading::Read;
 use inquiry::reading::physical_unit;
 use inquiry::reading::virtual_unit;

@@ -2,9 +2,9 @@
 mod paper; // paper
 mod examine; // x, xp
 
+use message::say;
 use screen::bad;
 use screen::clocks;
-use screen::message::say;
 use screen::sizes;
 use screen::sizes::Lengths;
 use screen::tables;

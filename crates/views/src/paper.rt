@@ -1,5 +1,4 @@
 // paper: what a printer printed.
-use screen::image;
 
 fn smaller(a: usize, b: u64) -> usize {
     if a as u64 <= b {

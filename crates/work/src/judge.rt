@@ -1,17 +1,8 @@
 // new: whether a station can be made, before its files are there.
-use crate::calls;
-use crate::calls::Called;
-use command::Fresh;
+use calls::refused;
+use forms::kinds::Fresh;
 use session::work::Settings;
 use session::work::Worked;
-
-// Document 01's number; 0 where nothing is refused.
-pub fn refused(answer: Called) -> u64 {
-    match answer {
-        Called::Done(_, _) => 0,
-        Called::Refused(number) => number,
-    }
-}
 
 pub fn reset(image: &mut [u8], s: Settings) -> u64 {
     refused(calls::reset(image, s.scale, s.delay, s.installed))

@@ -1,11 +1,8 @@
 // The machine does what a turn asks of it.
-mod calls; // the machine's public calls
-mod culprit; // the step that changed a word
 mod judge; // new: whether a station can be made
 mod load; // load
 mod taken_back; // back, reverse-stepi
 mod running; // run, stepi, and what begins with a run: new, blame, before
-mod blame; // blame, before
 
 use crate::judge::judged;
 use crate::running::runs;

@@ -1,11 +1,8 @@
 // run, stepi: some steps, until an exception stops them. A run of no steps judges the machine, before new, blame and before.
-use crate::blame::search;
-use crate::calls;
-use crate::calls::Called;
-use crate::culprit::Word;
-use crate::culprit::word_of_ram;
 use crate::judge::reset;
-use screen::image;
+use blame::placed;
+use blame::search;
+use calls::Called;
 use session::work::Asked;
 use session::work::Settings;
 use session::work::Work;
@@ -48,14 +45,6 @@ fn was_reset(image: &mut [u8], settings: Settings) -> Worked {
         return Worked::Refused(number);
     }
     Worked::Nothing
-}
-
-fn placed(asked: Asked, ram: usize) -> Worked {
-    let word = word_of_ram(asked.address, ram);
-    match word {
-        Word::At(_) => Worked::Nothing,
-        Word::Nowhere => Worked::NoWord(ram as u64),
-    }
 }
 
 // What comes before the run.

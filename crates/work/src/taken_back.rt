@@ -1,6 +1,5 @@
 // back, reverse-stepi: some of the newest steps are taken back.
-use crate::calls;
-use crate::calls::Called;
+use calls::Called;
 use session::work::Worked;
 
 fn told(answer: Called) -> Worked {

@@ -38,6 +38,14 @@ fn told(answer: Answer) -> Called {
     }
 }
 
+// Document 01's number; 0 where nothing is refused.
+pub fn refused(answer: Called) -> u64 {
+    match answer {
+        Called::Done(_, _) => 0,
+        Called::Refused(number) => number,
+    }
+}
+
 pub fn reset(image: &mut [u8], scale: u64, delay: u64, installed: u64) -> Called {
     told(lavushmir::reset(image, scale, delay, installed))
 }

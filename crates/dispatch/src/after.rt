@@ -1,12 +1,11 @@
 // How the session goes on when the machine has worked.
-use crate::load::loaded;
-use crate::make::accepted;
-use crate::make::made;
-use crate::running::excepted;
-use crate::running::ran;
-use screen::blame;
-use screen::blame::Culprit;
-use screen::message;
+use actions::load::loaded;
+use actions::make::accepted;
+use actions::make::made;
+use actions::running::excepted;
+use actions::running::ran;
+use message::blame;
+use message::blame::Culprit;
 use session::answer::REFUSED;
 use session::answer::Then;
 use session::turn::Turn;

@@ -1,15 +1,15 @@
 // blame and before: the step that last changed a word of RAM is named, or the machine is stood just before it.
-use crate::calls;
-use crate::calls::Called;
+mod culprit; // the step that changed a word
+
 use crate::culprit::Step;
 use crate::culprit::Word;
 use crate::culprit::seen;
 use crate::culprit::sought;
 use crate::culprit::word_of_ram;
-use crate::judge::refused;
+use calls::Called;
+use calls::refused;
 use inquiry::reading::word_at;
-use screen::blame::Culprit;
-use screen::image;
+use message::blame::Culprit;
 use seek::Sought;
 use session::work::Asked;
 use session::work::Worked;
@@ -48,6 +48,15 @@ fn stand(
     }
     let answer = calls::run(image, execution, bootstrap, ram, paper, journal, ago, 0);
     found(answer, culprit)
+}
+
+// Whether there is such a word at all.
+pub fn placed(asked: Asked, ram: usize) -> Worked {
+    let word = word_of_ram(asked.address, ram);
+    match word {
+        Word::At(_) => Worked::Nothing,
+        Word::Nowhere => Worked::NoWord(ram as u64),
+    }
 }
 
 fn place_of(asked: Asked, ram: usize) -> u32 {

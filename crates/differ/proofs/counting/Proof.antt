@@ -3,8 +3,8 @@ use mathlib.Core.Path.{_≡_}
 use Prim.Native.Nat.{_≤_, _-_}
 use borrow.Author.Needs.{needs}
 use lib.ListN.{length}
-use Rattle.screen.proofs.differ.counting.Statement.{statement}
-use Rattle.screen.proofs.differ.counting.Tie as tie
+use Rattle.differ.proofs.counting.Statement.{statement}
+use Rattle.differ.proofs.counting.Tie as tie
 
 abbrev Inv-loop : tie.InvT-loop
 Inv-loop here there len d₀ i₀ d i = (i ≤ len) × ((len ≤ length here) × (len ≤ length there))

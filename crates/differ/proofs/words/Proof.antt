@@ -3,8 +3,8 @@ use mathlib.Core.Path.{_≡_}
 use Prim.Native.Nat.{_≤_, _-_}
 use borrow.Author.Needs.{needs}
 use lib.ListN.{length}
-use Rattle.screen.proofs.differ.words.Statement.{statement}
-use Rattle.screen.proofs.differ.words.Tie as tie
+use Rattle.differ.proofs.words.Statement.{statement}
+use Rattle.differ.proofs.words.Tie as tie
 
 abbrev Inv-loop : tie.InvT-loop
 Inv-loop out₀ at image other next₀ k₀ out next k = (k ≤ 124) × (length out ≡ length out₀)

@@ -1,6 +1,5 @@
 // In what two stations differ: the words of the state, and how many bytes of RAM, paper and journal.
 ghost use Prim.Native.Nat.{_≤_};
-use crate::image;
 use phrase::template::fill_row;
 use phrase::template::four;
 

@@ -1,11 +1,10 @@
 // What a turn does, by what has happened and what the session is in the middle of.
-use crate::line::line;
-use crate::load;
-use crate::make;
-use crate::paper;
-use crate::running;
-use crate::save;
-use screen::message;
+use actions::load;
+use actions::make;
+use actions::paper;
+use actions::running;
+use actions::save;
+use line::line;
 use session::answer::DONE;
 use session::answer::FILE_TROUBLE;
 use session::answer::REFUSED;
@@ -16,6 +15,8 @@ use session::event::INTERRUPT;
 use session::event::LINE;
 use session::event::START;
 use session::event::TOO_LONG;
+use session::plan::Plan;
+use session::plan::turns;
 use session::turn::Turn;
 use session::turn::quietly;
 use session::turn::tells;
@@ -23,27 +24,6 @@ use session::words::FAILED;
 use session::words::IS_THERE;
 use session::words::LINES;
 use session::words::MODE;
-use session::work::Work;
-
-// What the machine is asked for, and the turn where it is asked for nothing.
-pub struct Plan {
-    pub work: Work,
-    pub turn: Turn,
-}
-
-pub fn turns(turn: Turn) -> Plan {
-    Plan {
-        work: Work::Nothing,
-        turn,
-    }
-}
-
-pub fn works(work: Work) -> Plan {
-    Plan {
-        work,
-        turn: quietly(Then::Ask),
-    }
-}
 
 fn start(session: &[u64; 32]) -> Turn {
     if !at_prompt(session) {

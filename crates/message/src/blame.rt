@@ -1,6 +1,7 @@
 // Who changed a word of RAM.
-use crate::message;
-use crate::message::Message;
+use crate::BEFORE;
+use crate::FOUND;
+use crate::Message;
 
 // The step that changed the word at `address`.
 pub struct Culprit {
@@ -15,7 +16,7 @@ pub struct Culprit {
 
 pub fn found(c: Culprit) -> Message {
     Message {
-        row: message::FOUND,
+        row: FOUND,
         stands: 0,
         a: c.address,
         b: c.ago,
@@ -31,7 +32,7 @@ pub fn found(c: Culprit) -> Message {
 // The machine stands just before the step that changes `address`.
 pub fn before(c: Culprit) -> Message {
     Message {
-        row: message::BEFORE,
+        row: BEFORE,
         stands: 1,
         a: c.ago,
         b: c.address,

@@ -1,5 +1,6 @@
 // What is said of what was done or refused: a row of the two tables below, with values, and perhaps where the machine stands.
-use crate::image;
+pub mod blame; // who changed a word
+
 use phrase::template::eight;
 use phrase::template::fill_row;
 use phrase::template::four;

@@ -1,7 +1,6 @@
 // The step that last changed a word of RAM: who it is, and standing just before it.
 use inquiry::reading::instruction;
-use screen::blame::Culprit;
-use screen::image;
+use message::blame::Culprit;
 use seek::Sought;
 
 // The offset of a word in RAM.
