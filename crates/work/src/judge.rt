@@ -1,12 +1,7 @@
 // new: whether a station can be made, before its files are there.
 use calls::refused;
 use forms::kinds::Fresh;
-use session::work::Settings;
 use session::work::Worked;
-
-pub fn reset(image: &mut [u8], s: Settings) -> u64 {
-    refused(calls::reset(image, s.scale, s.delay, s.installed))
-}
 
 // What reset says of the three parameters.
 fn ranges(scale: u64, delay: u64, installed: u64) -> u64 {

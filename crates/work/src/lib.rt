@@ -2,11 +2,10 @@
 mod judge; // new: whether a station can be made
 mod load; // load
 mod taken_back; // back, reverse-stepi
-mod running; // run, stepi, and what begins with a run: new, blame, before
 
 use crate::judge::judged;
-use crate::running::runs;
 use crate::taken_back::back;
+use running::runs;
 use session::work::Work;
 use session::work::Worked;
 

@@ -1,8 +1,8 @@
 // run, stepi: some steps, until an exception stops them. A run of no steps judges the machine, before new, blame and before.
-use crate::judge::reset;
 use blame::placed;
 use blame::search;
 use calls::Called;
+use calls::refused;
 use session::work::Asked;
 use session::work::Settings;
 use session::work::Work;
@@ -39,8 +39,8 @@ fn is_nothing(worked: Worked) -> bool {
     }
 }
 
-fn was_reset(image: &mut [u8], settings: Settings) -> Worked {
-    let number = reset(image, settings);
+fn was_reset(image: &mut [u8], s: Settings) -> Worked {
+    let number = refused(calls::reset(image, s.scale, s.delay, s.installed));
     if number != 0 {
         return Worked::Refused(number);
     }
