@@ -42,7 +42,7 @@ extern "C" {
 #endif
 
 /* Goes up by one with every change of this header that a caller can see. */
-#define LAVUSHMIR_VERSION 2
+#define LAVUSHMIR_VERSION 3
 
 /* Limits. A length that breaks one of them is refused. */
 #define LAVUSHMIR_FRAME_BYTES 4096      /* RAM is made of whole frames */
@@ -140,7 +140,10 @@ enum {
     /* the budget is spent */
     LAVUSHMIR_BUDGET_SPENT = 1,
     /* the last step entered an exception, and the run was asked to stop there */
-    LAVUSHMIR_EXCEPTION = 2
+    LAVUSHMIR_EXCEPTION = 2,
+    /* the fetch, load or store of the next step meets two entries of the
+       translation table that match; that step was not taken */
+    LAVUSHMIR_TWO_MATCHES = 3
 };
 
 /* The answer's number in words: what is wrong, in one line. */
@@ -170,6 +173,7 @@ static inline const char *lavushmir_reason_text(unsigned reason)
     case LAVUSHMIR_NO_REASON: return "no reason";
     case LAVUSHMIR_BUDGET_SPENT: return "the budget is spent";
     case LAVUSHMIR_EXCEPTION: return "the last step entered an exception";
+    case LAVUSHMIR_TWO_MATCHES: return "two entries of the table match at the next step";
     default: return "no reason of this header";
     }
 }
@@ -246,10 +250,19 @@ uint64_t lavushmir_reset(uint8_t *image, size_t image_bytes, uint64_t time_scale
  *   LAVUSHMIR_BAD_IMAGE      image_bytes is not 501, or the image breaks a rule.
  *   LAVUSHMIR_BAD_PARAMETER  budget is over 1,000,000.
  *   LAVUSHMIR_DONE           with the steps that were really run, and
- *                            LAVUSHMIR_BUDGET_SPENT or LAVUSHMIR_EXCEPTION. A
- *                            run that ends with an exception in the last step of
- *                            its budget, and was asked to stop there, answers
- *                            LAVUSHMIR_EXCEPTION.
+ *                            LAVUSHMIR_BUDGET_SPENT, LAVUSHMIR_EXCEPTION or
+ *                            LAVUSHMIR_TWO_MATCHES. A run that ends with an
+ *                            exception in the last step of its budget, and was
+ *                            asked to stop there, answers LAVUSHMIR_EXCEPTION.
+ *
+ * Two matches. A run stops before a step whose fetch, load or store meets two
+ * entries of the translation table that match, also where no stop was asked for:
+ * that is a fault of the machine's kernel. The step is not taken and not counted,
+ * and nothing has moved: no clock, no printer, no record. If the budget is spent
+ * as well, the reason is the budget. A step that is an interrupt entry fetches
+ * nothing and is taken. The next run from there stops at once, with 0 steps. Look
+ * at the image's table (LAVUSHMIR_WORD_TLB), and take back steps to see which of
+ * them wrote the second entry.
  *
  * Lend the same journal and paper again in the next call on the same image: the
  * image counts the records that the journal holds.

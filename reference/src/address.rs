@@ -42,24 +42,40 @@ impl Access {
 /// knows the width. The low twelve bits stay as they are.
 #[inline]
 pub fn physical(machine: &Machine, address: u32, access: Access) -> Result<u32, Exception> {
-    let status = machine.status;
-    let virtual_memory = status.virtual_memory();
-    if status.user_mode() {
-        let open_from = if virtual_memory { USER_FROM } else { TRANSLATED_FROM };
-        if address < open_from {
-            return Err(access.address_error(address));
-        }
+    if !allowed(machine, address) {
+        return Err(access.address_error(address));
     }
-    if virtual_memory && address >= TRANSLATED_FROM {
+    if is_translated(machine, address) {
         return translated(machine, address, access);
     }
     Ok(address)
 }
 
+#[inline]
+fn allowed(machine: &Machine, address: u32) -> bool {
+    let status = machine.status;
+    let open_from = if status.virtual_memory() { USER_FROM } else { TRANSLATED_FROM };
+    !status.user_mode() || address >= open_from
+}
+
+#[inline]
+fn is_translated(machine: &Machine, address: u32) -> bool {
+    machine.status.virtual_memory() && address >= TRANSLATED_FROM
+}
+
+/// Whether an aligned access at `address` meets two entries that match. What
+/// the entries hold does not matter.
+pub fn meets_two(machine: &Machine, address: u32) -> bool {
+    allowed(machine, address)
+        && is_translated(machine, address)
+        && search(&machine.tlb, address, machine.entry_hi).map_or(false, |found| found.second)
+}
+
+/// Of several entries that match the lowest counts. No run gets here with two.
 fn translated(machine: &Machine, address: u32, access: Access) -> Result<u32, Exception> {
-    let number = search(&machine.tlb, address, machine.entry_hi)
+    let found = search(&machine.tlb, address, machine.entry_hi)
         .ok_or_else(|| Exception::miss(access.table_code(), address))?;
-    let low = machine.tlb[number].low;
+    let low = machine.tlb[found.number].low;
     if low & VALID == 0 {
         return Err(Exception::at(access.table_code(), address));
     }

@@ -3,6 +3,7 @@
 pub const NO_REASON: u8 = 0;
 pub const BUDGET_SPENT: u8 = 1;
 pub const EXCEPTION: u8 = 2;
+pub const TWO_MATCHES: u8 = 3;
 
 /// Number for yes or no, stop reason, and steps, as document 01 gives them.
 #[derive(Clone, Copy, Debug, PartialEq, Eq)]

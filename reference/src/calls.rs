@@ -1,6 +1,6 @@
 //! Reset and run, with their refusals.
 
-use crate::answer::{Answer, BUDGET_SPENT, EXCEPTION, NO_REASON};
+use crate::answer::{Answer, BUDGET_SPENT, EXCEPTION, NO_REASON, TWO_MATCHES};
 use crate::image::{decode, encode, IMAGE_BYTES};
 use crate::machine::Machine;
 use crate::memory::Memory;
@@ -13,6 +13,7 @@ use crate::sizes::{
 };
 use crate::status::Status;
 use crate::step::step;
+use crate::two_matches::step_meets_two;
 
 pub fn reset(image: &mut [u8], time_scale: u64, printer_delay: u64, installed: u64) -> Answer {
     if image.len() != IMAGE_BYTES {
@@ -102,6 +103,9 @@ pub(crate) fn run_steps(
     let reason = loop {
         if steps == budget {
             break BUDGET_SPENT;
+        }
+        if machine.status.virtual_memory() && step_meets_two(&machine, &memory) {
+            break TWO_MATCHES;
         }
         let entered = take_step(&mut machine, &mut memory);
         steps += 1;

@@ -92,7 +92,7 @@ fn operate<R: Recorder>(
         6 => set_entry(machine, recorder, entry_number(machine.random), pair),
         8 => {
             let found = search(&machine.tlb, pair.high, pair.high);
-            machine.index = found.map_or(NOT_FOUND, |number| (number as u32) << 8);
+            machine.index = found.map_or(NOT_FOUND, |found| (found.number as u32) << 8);
         }
         16 => machine.status = machine.status.popped(),
         _ => return Err(Exception::plain(RESERVED)),

@@ -28,9 +28,10 @@ mod status;
 mod step;
 mod take_back;
 mod tlb;
+mod two_matches;
 mod word;
 
-pub use answer::{Answer, BUDGET_SPENT, EXCEPTION, NO_REASON};
+pub use answer::{Answer, BUDGET_SPENT, EXCEPTION, NO_REASON, TWO_MATCHES};
 pub use calls::{reset, run, run_recorded};
 pub use history::History;
 pub use image::{decode, encode, IMAGE_BYTES};
@@ -43,3 +44,4 @@ pub use rules::keeps_rules;
 pub use status::Status;
 pub use step::step;
 pub use take_back::take_back;
+pub use two_matches::step_meets_two;

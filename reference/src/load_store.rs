@@ -8,7 +8,8 @@ use crate::memory::{device_offset, ram_place, Memory};
 use crate::record::Recorder;
 use crate::word::{opcode, rs, rt, signed_immediate};
 
-fn address_of(machine: &Machine, word: u32) -> u32 {
+/// The address of a load's or store's word.
+pub fn address_of(machine: &Machine, word: u32) -> u32 {
     machine.register(rs(word)).wrapping_add(signed_immediate(word))
 }
 

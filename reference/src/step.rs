@@ -31,16 +31,22 @@ fn interrupt_or_instruction<R: Recorder>(
     memory: &mut Memory,
     recorder: &mut R,
 ) -> Result<(), Exception> {
-    let status = machine.status;
-    if status.interrupts_enabled() && machine.cause & status.interrupt_mask() != 0 {
+    if interrupts(machine, machine.cause) {
         return Err(Exception::plain(INTERRUPT));
     }
     let word = fetch(machine, memory)?;
     execute(machine, memory, recorder, word)
 }
 
+/// Part 3, for a Cause of which part 1 and 2 are done.
 #[inline]
-fn fetch(machine: &Machine, memory: &Memory) -> Result<u32, Exception> {
+pub fn interrupts(machine: &Machine, cause: u32) -> bool {
+    let status = machine.status;
+    status.interrupts_enabled() && cause & status.interrupt_mask() != 0
+}
+
+#[inline]
+pub fn fetch(machine: &Machine, memory: &Memory) -> Result<u32, Exception> {
     let pc = machine.pc;
     if pc % 4 != 0 {
         return Err(Access::Fetch.address_error(pc));

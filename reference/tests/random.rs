@@ -5,7 +5,7 @@ mod common;
 use common::dice::Dice;
 use common::states::random_bench;
 use common::*;
-use reference::{Answer, BUDGET_SPENT, EXCEPTION, IMAGE_BYTES};
+use reference::{Answer, BUDGET_SPENT, EXCEPTION, IMAGE_BYTES, TWO_MATCHES};
 
 const MACHINES: u32 = 4_000;
 const STEPS: u32 = 60;
@@ -16,11 +16,17 @@ fn images_keep_the_rules_and_every_exception_is_met() {
     let mut dice = Dice::new(1);
     let mut by_code = [0u32; 13];
     let (mut misses, mut printed, mut full, mut finished, mut plain) = (0, 0, 0, 0, 0);
+    let mut halted = 0;
     for _ in 0..MACHINES {
         let mut bench = random_bench(&mut dice);
         for _ in 0..STEPS {
             let before = bench.clone();
             let answer = bench.run_with(1, 1);
+            if answer == Answer::done(TWO_MATCHES, 0) {
+                assert_eq!(bench, before);
+                halted += 1;
+                break;
+            }
             assert_eq!((answer.number, answer.steps), (0, 1));
             if answer.reason == EXCEPTION {
                 by_code[bench.code() as usize] += 1;
@@ -39,9 +45,10 @@ fn images_keep_the_rules_and_every_exception_is_met() {
     }
     println!("exceptions by code {by_code:?}");
     println!("{misses} misses, {plain} steps without exception");
+    println!("{halted} machines stopped before two matches");
     println!("{finished} printers finished, {printed} bytes printed, {full} eighths full");
     assert!(by_code.iter().all(|&count| count >= 20), "{by_code:?}");
-    assert!(misses >= 100 && plain >= 50_000);
+    assert!(misses >= 100 && plain >= 50_000 && halted >= 200);
     assert!(finished >= 1_000 && printed >= 100 && full >= 100);
 }
 
@@ -62,6 +69,9 @@ fn budget_n_is_n_times_budget_one() {
                 break BUDGET_SPENT;
             }
             let part = parts.run_with(1, stop);
+            if part == Answer::done(TWO_MATCHES, 0) {
+                break TWO_MATCHES;
+            }
             assert_eq!((part.number, part.steps), (0, 1));
             steps += 1;
             if part.reason == EXCEPTION {

@@ -6,7 +6,7 @@ use common::asm::*;
 use common::dice::Dice;
 use common::states::random_bench_with_slots;
 use common::*;
-use reference::{Answer, History};
+use reference::{Answer, History, TWO_MATCHES};
 
 /// A bench whose steps are taken back by replay.
 struct Replayed {
@@ -138,8 +138,12 @@ fn reading_81_and_82_the_slot_and_nothing_but_the_slot() {
             other.journal = bench.journal.iter().map(|byte| !byte).collect();
             let at = bench.machine.next_slot as usize * 256;
             let (mut expected, mut other_expected) = (bench.journal.clone(), other.journal.clone());
-            bench.run_records(1, 0);
-            other.run_records(1, 0);
+            let answer = bench.run_records(1, 0);
+            assert_eq!(other.run_records(1, 0), answer);
+            if answer.reason == TWO_MATCHES {
+                assert!(bench.journal == expected && other.journal == other_expected);
+                break;
+            }
             let record = bench.journal[at..at + 256].to_vec();
             expected[at..at + 256].copy_from_slice(&record);
             other_expected[at..at + 256].copy_from_slice(&record);
@@ -148,7 +152,7 @@ fn reading_81_and_82_the_slot_and_nothing_but_the_slot() {
         }
     }
     println!("{steps} steps over two different slots");
-    assert_eq!(steps, 12_000);
+    assert!(steps >= 10_000);
 }
 
 /// The largest journal, gone round more than once and then emptied.

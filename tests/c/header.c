@@ -110,6 +110,37 @@ static void words_after_a_step(void)
     check(lavushmir_image_word(image, LAVUSHMIR_WORD_NEXT_SLOT) == 1, "next slot");
 }
 
+static void put_word(unsigned place, uint32_t value)
+{
+    uint8_t *at = image + 5 + 4 * place;
+    at[0] = (uint8_t)(value >> 24);
+    at[1] = (uint8_t)(value >> 16);
+    at[2] = (uint8_t)(value >> 8);
+    at[3] = (uint8_t)value;
+}
+
+/* A fetch for which two entries of the table match is not made. */
+static void two_matches(void)
+{
+    static uint8_t before[sizeof image];
+    unsigned entry;
+    uint64_t answer;
+    check(reset_number(1, 1) == LAVUSHMIR_DONE, "a reset for two matches");
+    put_word(LAVUSHMIR_WORD_STATUS, 0x01000000);
+    put_word(LAVUSHMIR_WORD_PC, 0x80000000);
+    for (entry = 3; entry < LAVUSHMIR_TLB_ENTRIES; entry += LAVUSHMIR_TLB_ENTRIES - 4) {
+        put_word(LAVUSHMIR_WORD_TLB + 2 * entry, 0x80000000);
+        put_word(LAVUSHMIR_WORD_TLB + 2 * entry + 1, LAVUSHMIR_RAM_ADDRESS | 0x200);
+    }
+    memcpy(before, image, sizeof image);
+    answer = lavushmir_run(image, sizeof image, rom, 4, other_rom, 4, ram,
+                           LAVUSHMIR_FRAME_BYTES, paper, 0, journal, 0, 5, 0);
+    check(lavushmir_number(answer) == LAVUSHMIR_DONE, "a run to two matches is done");
+    check(lavushmir_reason(answer) == LAVUSHMIR_TWO_MATCHES, "two matches");
+    check(lavushmir_steps(answer) == 0, "and no step");
+    check(memcmp(before, image, sizeof image) == 0, "nothing moves");
+}
+
 /* Every number and reason has words of its own, and other numbers have some too. */
 static void texts(void)
 {
@@ -117,7 +148,7 @@ static void texts(void)
     for (n = 0; n <= LAVUSHMIR_BAD_ADDRESS + 1; n++)
         for (k = 0; k < n; k++)
             check(strcmp(lavushmir_text(n), lavushmir_text(k)) != 0, "two numbers, one text");
-    for (n = 0; n <= LAVUSHMIR_EXCEPTION + 1; n++)
+    for (n = 0; n <= LAVUSHMIR_TWO_MATCHES + 1; n++)
         for (k = 0; k < n; k++)
             check(strcmp(lavushmir_reason_text(n), lavushmir_reason_text(k)) != 0,
                   "two reasons, one text");
@@ -130,6 +161,7 @@ int main(void)
     limits();
     words();
     words_after_a_step();
+    two_matches();
     texts();
     return checked("the header");
 }

@@ -1,4 +1,4 @@
-// run, stepi: at most 100,000 steps in a turn, until as many as asked for are run, an exception stops them, or Ctrl-C comes.
+// run, stepi: at most 100,000 steps in a turn, until as many as asked for are run, an exception or two matches stop them, or Ctrl-C comes.
 use message::Message;
 use session::answer::GO_ON;
 use session::answer::Then;
@@ -93,6 +93,14 @@ pub fn ran(session: &mut [u64; 32], steps: u64) -> Turn {
     }
     says(
         message::with(message::RAN, 1, wiped(session), session[DONE], 0),
+        Then::Ask,
+    )
+}
+
+pub fn two_matches(session: &mut [u64; 32], steps: u64) -> Turn {
+    count(session, steps);
+    says(
+        message::with(message::TWO_MATCHES, 1, wiped(session), session[DONE], 0),
         Then::Ask,
     )
 }

@@ -1,9 +1,9 @@
--- What C unpacks is what was packed.
-use Prim.Native.Nat.{_/_, _%_, _^_, _<_}
-use mathlib.Core.Path.{_≡_}
+-- What C unpacks is what was packed, and a reason's number tells it from the others.
+use Prim.Native.Nat.{ℕ, zero, suc, _/_, _%_, _^_, _<_}
+use mathlib.Core.Path.{_≡_, refl, sym, ap, _∙_}
 use native.Mathlib.Omega.{arith}
 use Rattle.answer.specs.declared.Reason.{Reason}
-use Rattle.answer.specs.declared.Reason.the-variants.{NoReason, BudgetSpent, Exception}
+use Rattle.answer.specs.declared.Reason.the-variants.{NoReason, BudgetSpent, Exception, TwoMatches}
 use Rattle.answer.specs.declared.Refusal.{Refusal}
 use Rattle.answer.specs.declared.Refusal.the-variants.{Ram, Rom, Paper, Journal, Image, Range, TooFar, BadRecord, Address}
 use Rattle.answer.specs.declared.Answer.{Answer}
@@ -14,6 +14,22 @@ reason-small : (r : Reason) → reasonNumber r < 2 ^ 8
 reason-small NoReason = omega arith
 reason-small BudgetSpent = omega arith
 reason-small Exception = omega arith
+reason-small TwoMatches = omega arith
+
+abbrev reasonAt : ℕ → Reason
+reasonAt zero = NoReason
+reasonAt (suc zero) = BudgetSpent
+reasonAt (suc (suc zero)) = Exception
+reasonAt (suc (suc (suc n))) = TwoMatches
+
+at-number : (r : Reason) → reasonAt (reasonNumber r) ≡ r
+at-number NoReason = refl
+at-number BudgetSpent = refl
+at-number Exception = refl
+at-number TwoMatches = refl
+
+pub reasons-apart : (r s : Reason) → reasonNumber r ≡ reasonNumber s → r ≡ s
+reasons-apart r s e = sym (at-number r) ∙ ap reasonAt e ∙ at-number s
 
 refusal-small : (r : Refusal) → refusalNumber r < 2 ^ 8
 refusal-small Ram = omega arith

@@ -1,7 +1,7 @@
 -- What each answer says: document 01's number, the stop reason, the steps, and all three packed in 64 bits.
 use Prim.Native.Nat.{ℕ, _+_, _*_, _^_}
 use Rattle.answer.specs.declared.Reason.{Reason}
-use Rattle.answer.specs.declared.Reason.the-variants.{NoReason, BudgetSpent, Exception}
+use Rattle.answer.specs.declared.Reason.the-variants.{NoReason, BudgetSpent, Exception, TwoMatches}
 use Rattle.answer.specs.declared.Refusal.{Refusal}
 use Rattle.answer.specs.declared.Refusal.the-variants.{Ram, Rom, Paper, Journal, Image, Range, TooFar, BadRecord, Address}
 use Rattle.answer.specs.declared.Answer.{Answer}
@@ -11,6 +11,7 @@ abbrev pub reasonNumber : Reason → ℕ
 reasonNumber NoReason = 0
 reasonNumber BudgetSpent = 1
 reasonNumber Exception = 2
+reasonNumber TwoMatches = 3
 
 -- document 01, "Numbers for yes and no"
 abbrev pub refusalNumber : Refusal → ℕ

@@ -9,6 +9,7 @@ pub enum Reason {
     NoReason,
     BudgetSpent,
     Exception,
+    TwoMatches, // document 02, L5
 }
 
 pub enum Refusal {
@@ -29,12 +30,13 @@ pub enum Answer {
 }
 
 fn reason_number(reason: Reason) -> u64
-    ensures { λ r. ⌜ (r ≡ reasonNumber reason) × (r < 3) ⌝ }
+    ensures { λ r. ⌜ (r ≡ reasonNumber reason) × (r < 4) ⌝ }
 {
     match reason {
         Reason::NoReason => 0,
         Reason::BudgetSpent => 1,
         Reason::Exception => 2,
+        Reason::TwoMatches => 3,
     }
 }
 

@@ -3,9 +3,16 @@ use lavushmir::Answer;
 use lavushmir::Reason;
 use lavushmir::Refusal;
 
-// A call that was done, with the steps and whether it stopped at an exception; or document 01's number.
+// Why a run stopped; a call that does not run has spent all that it was given.
+pub enum Ended {
+    Budget,
+    Exception,
+    TwoMatches,
+}
+
+// A call that was done, with the steps and why a run stopped; or document 01's number.
 pub enum Called {
-    Done(u64, bool),
+    Done(u64, Ended),
     Refused(u64),
 }
 
@@ -23,17 +30,18 @@ fn number(refusal: Refusal) -> u64 {
     }
 }
 
-fn is_exception(reason: Reason) -> bool {
+fn why(reason: Reason) -> Ended {
     match reason {
-        Reason::NoReason => false,
-        Reason::BudgetSpent => false,
-        Reason::Exception => true,
+        Reason::NoReason => Ended::Budget,
+        Reason::BudgetSpent => Ended::Budget,
+        Reason::Exception => Ended::Exception,
+        Reason::TwoMatches => Ended::TwoMatches,
     }
 }
 
 fn told(answer: Answer) -> Called {
     match answer {
-        Answer::Done(steps, reason) => Called::Done(steps as u64, is_exception(reason)),
+        Answer::Done(steps, reason) => Called::Done(steps as u64, why(reason)),
         Answer::Refused(refusal) => Called::Refused(number(refusal)),
     }
 }

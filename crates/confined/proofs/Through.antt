@@ -94,7 +94,7 @@ module _ (t : List Row) (entry : ℕ) (sizes : Sizes) (va : ℕ) where
         (λ _. tt)
 
     by-found : (f : Found) → foundIn (soughtOf va entry) t ≡ f → LandsSo (busAfter access sizes (byFound Store va t f))
-    by-found (At i) e = by-row i (found-lowest (matchesOf (soughtOf va entry)) t i e)
+    by-found (At i second) e = by-row i (found-lowest (matchesOf (soughtOf va entry)) t i second e)
     by-found Nothing e = tt
 
 module _ (cp0 : Cp0) (t : List Row) (sizes : Sizes) (va : ℕ) (width : Width) (user : bit 1 (cp0 .status) ≡ true) (virtual : bit 24 (cp0 .status) ≡ true)

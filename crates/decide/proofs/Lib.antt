@@ -6,3 +6,4 @@ pub mod Laws
 pub mod Parts
 pub mod PlainFetch
 pub mod Fetches
+pub mod Quiet

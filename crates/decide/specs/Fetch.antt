@@ -11,8 +11,6 @@ use Rattle.decide.specs.Lent.{Lent, sizesOf, wordIn}
 use Rattle.decide.specs.declared.fetch.Fetched.{Fetched}
 use Rattle.decide.specs.declared.fetch.Fetched.the-variants.{Word, Refused}
 
--- ---- aids to proofs: nothing that a reader must believe
-
 abbrev pub answered : Lent → Reached → Fetched
 answered lent (Lands place) = Word (wordIn lent place)
 answered lent (Exception miss code) = Refused code miss

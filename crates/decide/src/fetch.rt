@@ -19,7 +19,7 @@ pub enum Fetched {
     Refused(u32, bool), // code, miss
 }
 
-fn fetch_slow(
+pub fn fetch_slow(
     core: Core,
     rows: [Row; 16],
     execution: &[u8],

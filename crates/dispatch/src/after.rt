@@ -4,6 +4,7 @@ use actions::make::accepted;
 use actions::make::made;
 use actions::running::excepted;
 use actions::running::ran;
+use actions::running::two_matches;
 use message::blame;
 use message::blame::Culprit;
 use session::answer::REFUSED;
@@ -44,6 +45,7 @@ pub fn after(session: &mut [u64; 32], worked: Worked, turn: Turn) -> Turn {
         Worked::Accepted(fresh) => accepted(session, fresh),
         Worked::Ran(steps) => ran(session, steps),
         Worked::Excepted(steps, code, place) => excepted(session, steps, code, place),
+        Worked::TwoMatches(steps) => two_matches(session, steps),
         Worked::TakenBack(steps) => taken_back(session, steps),
         Worked::Found(culprit) => says(blame::found(culprit), Then::Ask),
         Worked::Stood(culprit) => stood(session, culprit),

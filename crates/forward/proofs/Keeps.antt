@@ -1,4 +1,4 @@
--- EVERY IMAGE THAT A DONE RUN WRITES KEEPS THE RULES, and what is lent stays as long as it was.
+-- EVERY IMAGE THAT A DONE RUN WRITES KEEPS THE RULES and is read again as the machine that was run, and what is lent stays as long as it was.
 use Prim.Native.Nat.{ℕ, _/_, _^_, _<_}
 use mathlib.Core.Path.{_≡_, refl, sym, ap, subst, _∙_}
 use mathlib.Core.Bool.{true, not}
@@ -9,15 +9,16 @@ use lib.Dec.{eqb, leb}
 use lib.ListN.{length}
 use Rattle.word.specs.Lists.{Below}
 use Rattle.ring.specs.Slots.{Sound}
-use Rattle.ring.specs.Run.{Config, advance}
+use Rattle.ring.specs.Run.{Why, Config, advance, ended, spent}
 use Rattle.ring.proofs.Slots.{sound-written, length-written}
 use Rattle.record.specs.Layout.{recordBytes}
 use Rattle.journal.specs.Journal.{slotsOf}
 use Rattle.state.specs.Layout.{bytesOf, machineOf}
+use Rattle.state.specs.declared.machine.Machine.{Machine}
 use Rattle.rules.specs.Rules.{goodImage}
 use Rattle.rules.proofs.Good.{good-same}
 use Rattle.decide.specs.Lent.{Whole}
-use Rattle.step.specs.World.{World, Roms, lentIn}
+use Rattle.step.specs.World.{World, Roms, lentIn, worldIn}
 use Rattle.step.specs.Note.{noteOf}
 use Rattle.good.specs.Good.{Good}
 use Rattle.good.proofs.Lengths.{step-lengths, step-whole}
@@ -28,12 +29,13 @@ use Rattle.run.specs.Run.{forward, configOf}
 use Rattle.answer.specs.declared.Reason.the-variants.{BudgetSpent}
 use Rattle.answer.specs.declared.Answer.the-variants.{Done}
 use Rattle.answer.specs.Lent.{ramFits, romsFit, paperFits, journalFits}
+use Rattle.accepted.specs.After.{worldFrom}
 use Rattle.accepted.specs.Left.{Left, leftOf}
-use Rattle.forward.specs.Run.{ranOf, doneRun, runLeaves}
+use Rattle.forward.specs.Run.{reasonNamed, ranOf, doneRun, runLeaves}
 use Rattle.ring.proofs.Run as ring
 use Rattle.ring.proofs.Steps.{run-keeps}
 use Rattle.accepted.proofs.Start.{lent-whole, paper-short, few-slots, ring-sound, image-mark, start-good}
-use Rattle.accepted.proofs.End.{end-bytes, end-good}
+use Rattle.accepted.proofs.End.{end-bytes, end-good, end-read}
 use Rattle.forward.proofs.Theorems.{runNumber, number-0, done-is}
 
 -- ---- what a run keeps from step to step: `slots` of the journal, and the lengths of RAM, paper and journal
@@ -135,6 +137,16 @@ module _ (b : Buffers) (budget stop : ℕ) (number : runNumber b budget stop ≡
     pub run-kept : RunKept (runLeaves b budget stop) b
     run-kept = subst (λ (l : Left). RunKept l b) (sym (done-is b budget stop number)) done-kept
 
+    done-read : worldFrom (doneRun b budget stop .buffers) ≡ ranOf b budget stop .config .state
+    unfolding doneRun
+    done-read =
+        let c = ranOf b budget stop .config in
+        ap (λ (m : Machine). worldIn m (c .state .ram) (c .state .paper)) (end-read (c .state) (c .ring) (slotsOf (lent .journal)) few (fine .good) (fine .sound))
+
+    -- what is left, read again, is the world where the run stands
+    pub run-read : worldFrom (runLeaves b budget stop .buffers) ≡ ranOf b budget stop .config .state
+    run-read = ap (λ (l : Left). worldFrom (l .buffers)) (done-is b budget stop number) ∙ done-read
+
     -- so what a done run leaves can be run again, with any budget in its range
     pub run-again : (more stop′ : ℕ) → leb more 1000000 ≡ true → runNumber (runLeaves b budget stop .buffers) more stop′ ≡ 0
     run-again more stop′ e =
@@ -148,6 +160,20 @@ module _ (b : Buffers) (budget stop : ℕ) (number : runNumber b budget stop ≡
         let j : journalFits (length (after .beside .journal)) ≡ true = ap (λ (n : ℕ). journalFits n) (k .journal-long) ∙ t .1 .1 .1 .0 in
         number-0 after more stop′ .1 (r, (o, (p, (j, (k .image-good, e)))))
 
+-- ---- a run that takes no step leaves every byte as it was
+
+module _ (b : Buffers) (budget stop : ℕ) (number : runNumber b budget stop ≡ 0) (why : Why)
+    (none : ranOf b budget stop ≡ ended (configOf (romsIn (b .beside)) (machineOf (b .image)) (b .beside)) 0 why) where
+  stayed : doneRun b budget stop ≡ leftOf (Done 0 (reasonNamed why)) (record { image = bytesOf (machineOf (b .image)); beside = b .beside })
+  unfolding doneRun
+  stayed = rw none
+
+  pub stays : Below 256 (b .image) → runLeaves b budget stop ≡ leftOf (Done 0 (reasonNamed why)) b
+  stays small =
+      done-is b budget stop number ∙ stayed
+      ∙ ap (λ (image : List ℕ). leftOf (Done 0 (reasonNamed why)) (record { image = image; beside = b .beside }))
+      (good-same (b .image) (length (b .beside .paper)) (length (b .beside .journal)) small (number-0 b budget stop .0 number .1 .1 .1 .1 .0))
+
 -- ---- "Budget 0 [..] [is] done and change[s] nothing", and "for budget 0 [the reason] is the budget"
 
 module _ (b : Buffers) (stop : ℕ) (ram-fits : ramFits (length (b .beside .ram)) ≡ true)
@@ -157,15 +183,8 @@ module _ (b : Buffers) (stop : ℕ) (ram-fits : ramFits (length (b .beside .ram)
   none-done : runNumber b 0 stop ≡ 0
   none-done = number-0 b 0 stop .1 (ram-fits, (roms-fit, (paper-fits, (journal-fits, (good, le-leb 0 1000000 (omega arith))))))
 
-  -- a run that takes no step ends where it began
-  none-ran : doneRun b 0 stop ≡ leftOf (Done 0 BudgetSpent) (record { image = bytesOf (machineOf (b .image)); beside = b .beside })
-  unfolding doneRun
-  none-ran =
-      let roms = romsIn (b .beside) in
-      rw (ring.run-none (forward roms) (slotsOf (b .beside .journal)) (not (eqb stop 0)) (configOf roms (machineOf (b .image)) (b .beside)))
-
   pub run-none : Below 256 (b .image) → runLeaves b 0 stop ≡ leftOf (Done 0 BudgetSpent) b
   run-none small =
-      done-is b 0 stop none-done ∙ none-ran
-      ∙ ap (λ (image : List ℕ). leftOf (Done 0 BudgetSpent) (record { image = image; beside = b .beside }))
-      (good-same (b .image) (length (b .beside .paper)) (length (b .beside .journal)) small good)
+      let roms = romsIn (b .beside) in
+      stays b 0 stop none-done spent
+      (ring.run-none (forward roms) (slotsOf (b .beside .journal)) (not (eqb stop 0)) (configOf roms (machineOf (b .image)) (b .beside))) small

@@ -2,3 +2,4 @@ pub mod Running
 pub mod Theorems
 pub mod Steps
 pub mod Keeps
+pub mod Matches

@@ -34,28 +34,36 @@ worldLater b k = iterate (forward (romsIn (b .beside))) k (worldFrom b)
 abbrev pub raisesLater : Buffers → ℕ → Bool
 raisesLater b k = raisesOf (romsIn (b .beside)) (worldLater b k)
 
+-- does a run halt before the step from there: document 02, L5, "meets two matches"
+abbrev pub haltsLater : Buffers → ℕ → Bool
+haltsLater b k = forward (romsIn (b .beside)) .halts (worldLater b k)
+
 -- Of what a run leaves, with the steps that it answers. Image, RAM and paper are those of that many steps. A run that says that its budget is spent took all
 -- of it; one that says that an exception ended it was asked to stop there, and its last step entered one; and a step that enters one, if that is asked, is the last.
+-- Whatever the reason, none of its steps meets two matches; one that says that it stopped before two has budget left, and the step from where it stands meets them.
 pub record RunSays (b : Buffers) (budget stop : ℕ) (left : Left) : Type 0 where
   pub few : stepsOf (left .answer) ≤ budget
   pub small : stepsOf (left .answer) < 2 ^ 32
   pub image-is : (mark : Journal) × (left .buffers .image ≡ bytesOf (machineIn (worldLater b (stepsOf (left .answer))) mark))
   pub ram-is : left .buffers .beside .ram ≡ worldLater b (stepsOf (left .answer)) .ram
   pub paper-is : left .buffers .beside .paper ≡ worldLater b (stepsOf (left .answer)) .paper
-  pub why : (reasonOf (left .answer) ≡ 1) ⊎ (reasonOf (left .answer) ≡ 2)
+  pub why : (reasonOf (left .answer) ≡ 1) ⊎ ((reasonOf (left .answer) ≡ 2) ⊎ (reasonOf (left .answer) ≡ 3))
   pub all : reasonOf (left .answer) ≡ 1 → stepsOf (left .answer) ≡ budget
   pub last : reasonOf (left .answer) ≡ 2 →
       (stop ≡ 0 → ⊥) × ((0 < stepsOf (left .answer)) × (raisesLater b (stepsOf (left .answer) - 1) ≡ true))
   pub first : (stop ≡ 0 → ⊥) → (i : ℕ) → i < stepsOf (left .answer) → raisesLater b i ≡ true →
       (suc i ≡ stepsOf (left .answer)) × (reasonOf (left .answer) ≡ 2)
+  pub clear : (i : ℕ) → i < stepsOf (left .answer) → haltsLater b i ≡ false
+  pub met : reasonOf (left .answer) ≡ 3 → (stepsOf (left .answer) < budget) × (haltsLater b (stepsOf (left .answer)) ≡ true)
 
--- the two reasons of a run have the numbers that document 01 gives them, and no other
+-- the three reasons of a run have the numbers that the documents give them, and no other
 abbrev numbered : Why → ℕ
 numbered why = reasonNumber (reasonNamed why)
 
-named : (why : Why) → (why ≡ spent) ⊎ (why ≡ excepted) → (numbered why ≡ 1) ⊎ (numbered why ≡ 2)
-named why (inl e) = inl (ap numbered e)
-named why (inr e) = inr (ap numbered e)
+named : (why : Why) → (numbered why ≡ 1) ⊎ ((numbered why ≡ 2) ⊎ (numbered why ≡ 3))
+named spent = inl refl
+named excepted = inr (inl refl)
+named halted = inr (inr refl)
 
 is-spent : (why : Why) → numbered why ≡ 1 → why ≡ spent
 is-spent spent e = refl
@@ -66,6 +74,11 @@ is-excepted : (why : Why) → numbered why ≡ 2 → why ≡ excepted
 is-excepted spent e = absurd (omega arith)
 is-excepted excepted e = refl
 is-excepted halted e = absurd (omega arith)
+
+is-halted : (why : Why) → numbered why ≡ 3 → why ≡ halted
+is-halted spent e = absurd (omega arith)
+is-halted excepted e = absurd (omega arith)
+is-halted halted e = refl
 
 asked : (t : Bool) → not t ≡ true → t ≡ false
 asked true e = absurd (false≢true e)
@@ -85,13 +98,15 @@ module _ (b : Buffers) (budget stop : ℕ) where
         image-is = (mark, ap (λ (w : World). bytesOf (machineIn w mark)) (s .state));
         ram-is = ap (λ (w : World). w .ram) (s .state);
         paper-is = ap (λ (w : World). w .paper) (s .state);
-        why = named (r .reason) (s .why);
+        why = named (r .reason);
         all = λ e. s .all (is-spent (r .reason) e);
         last = λ e. let l = s .last (is-excepted (r .reason) e) in (eqb-false stop 0 (asked (eqb stop 0) (l .0)), l .1);
         first = λ on i l e.
             let wanted : not (eqb stop 0) ≡ true = ap not (ne-eqb stop 0 on) in
             let h = s .first i l (and-true wanted e) in
             (h .0, ap numbered (h .1));
+        clear = s .clear;
+        met = λ e. s .met (is-halted (r .reason) e);
       }
 
   done-says : budget ≤ 1000000 → RunSays b budget stop (doneRun b budget stop)
@@ -99,7 +114,7 @@ module _ (b : Buffers) (budget stop : ℕ) where
   done-says most =
       let roms = romsIn (b .beside) in
       says-of (ranOf b budget stop) most
-      (run-steps (forward roms) (slotsOf (b .beside .journal)) (λ w. refl) budget (not (eqb stop 0)) (configOf roms (machineOf (b .image)) (b .beside)))
+      (run-steps (forward roms) (slotsOf (b .beside .journal)) budget (not (eqb stop 0)) (configOf roms (machineOf (b .image)) (b .beside)))
 
   -- THE THEOREM
   pub run-says : runNumber b budget stop ≡ 0 → RunSays b budget stop (runLeaves b budget stop)
@@ -120,9 +135,10 @@ module _ (b : Buffers) (budget stop : ℕ) where
       small : number ≤ 6
       small = no-other b budget stop
 
-      fits : (reasonOf (left .answer) ≡ 1) ⊎ (reasonOf (left .answer) ≡ 2) → stepsOf (left .answer) < 2 ^ 32 → packedOf (left .answer) < 2 ^ 64
+      fits : (reasonOf (left .answer) ≡ 1) ⊎ ((reasonOf (left .answer) ≡ 2) ⊎ (reasonOf (left .answer) ≡ 3)) → stepsOf (left .answer) < 2 ^ 32 → packedOf (left .answer) < 2 ^ 64
       fits (inl e) h = omega (arith, small, e, h)
-      fits (inr e) h = omega (arith, small, e, h)
+      fits (inr (inl e)) h = omega (arith, small, e, h)
+      fits (inr (inr e)) h = omega (arith, small, e, h)
 
       by : Dec (number ≡ 0) → packedOf (left .answer) < 2 ^ 64
       by (yes e) = let s = run-says e in fits (s .why) (s .small)

@@ -12,7 +12,7 @@ use Rattle.answer.specs.Lent.{andThen, lentTest}
 use Rattle.accepted.specs.After.{buffersAfter}
 use Rattle.accepted.specs.Left.{Left, leftOf, leftBy}
 use Rattle.answer.specs.declared.Reason.{Reason}
-use Rattle.answer.specs.declared.Reason.the-variants.{NoReason, BudgetSpent, Exception}
+use Rattle.answer.specs.declared.Reason.the-variants.{BudgetSpent, Exception, TwoMatches}
 use Rattle.answer.specs.declared.Refusal.the-variants.{Image, Range}
 use Rattle.answer.specs.declared.Answer.the-variants.{Done}
 use Rattle.answer.specs.declared.lent.Test.{Test}
@@ -34,11 +34,11 @@ runTest b budget = andThen (besideTest (b .beside)) (imageTest b budget)
 
 -- ---- what is left
 
--- nothing halts the machine of document 01 (proofs/Steps.antt), so that no run ends for that reason
+-- document 01 has the first two, document 02, L5, the third
 abbrev pub reasonNamed : Why → Reason
 reasonNamed spent = BudgetSpent
 reasonNamed excepted = Exception
-reasonNamed halted = NoReason
+reasonNamed halted = TwoMatches
 
 abbrev pub ranOf : (b : Buffers) → ℕ → ℕ → Ran (forward (romsIn (b .beside)))
 ranOf b budget stop = runOf budget (not (eqb stop 0)) (machineOf (b .image)) (b .beside)

@@ -23,6 +23,7 @@ fn reason(why: Stop) -> Reason
     match why {
         Stop::Budget => Reason::BudgetSpent,
         Stop::Exception => Reason::Exception,
+        Stop::TwoMatches => Reason::TwoMatches,
     }
 }
 

@@ -2,7 +2,7 @@
 ghost use mathlib.Core.Path.{_≡_};
 ghost use Prim.Native.Nat.{_<_, _≤_};
 ghost use lib.ListN.{length};
-ghost use Rattle.printer.specs.Tick.{anyBusy};
+ghost use Rattle.printer.specs.Tick.{anyBusy, anyEnding};
 ghost use Rattle.printer.specs.Saved.{savedPaperOf};
 ghost use Rattle.held.specs.Board.{printersIn};
 ghost use Rattle.held.specs.Line.{OneHeldIs, TicksIs, CommandIs, DataIs, KeptIs};
@@ -58,6 +58,18 @@ pub fn busy_in(words: &[u32; 40]) -> bool
     let mut some = false;
     for n in 0..8 {
         some = some | (words[5 * n] == BUSY);
+    }
+    some
+}
+
+// Whether a printer finishes at the next tick.
+pub fn ending_in(words: &[u32; 40]) -> bool
+    ensures { λ r. ⌜ r ≡ anyEnding (printersIn (now (words .entry))) ⌝ }
+{
+    let mut some = false;
+    for n in 0..8 {
+        let works = words[5 * n] == BUSY;
+        some = some | (works & (words[5 * n + 3] <= 1));
     }
     some
 }

@@ -1,5 +1,6 @@
 -- Loads and stores: the virtual address is the base and the offset, extended by its sign, modulo 2^32; then document 01, "Addresses".
 use Prim.Native.Nat.{ℕ}
+use mathlib.Core.Bool.{Bool}
 use mathlib.Core.List.{List}
 use Rattle.alu.specs.Sum.{addiuOf}
 use Rattle.isa.specs.declared.instr.LoadOp.{LoadOp}
@@ -10,7 +11,7 @@ use Rattle.board.specs.declared.places.Sizes.{Sizes}
 use Rattle.cp0.specs.Privilege.{modeOf}
 use Rattle.cp0.specs.declared.registers.Cp0.{Cp0}
 use Rattle.tlb.specs.declared.Row.{Row}
-use Rattle.reach.specs.Reach.{reachOf}
+use Rattle.reach.specs.Reach.{reachOf, meetsTwo}
 use Rattle.reach.specs.declared.Reached.{Reached}
 use Rattle.reach.specs.declared.access.Kind.{Kind}
 use Rattle.reach.specs.declared.access.Kind.the-variants as kind
@@ -39,6 +40,10 @@ storeWidth Swr = Part
 unfoldable pub reachedOf : Kind → Width → Cp0 → List Row → Sizes → ℕ → Reached
 reachedOf kind width cp0 t sizes va =
     reachOf (modeOf (cp0 .status)) (record { kind = kind; width = width }) sizes va t (cp0 .«entry_hi»)
+
+-- and whether it meets two matches (document 02, L5)
+unfoldable pub twiceOf : Kind → Width → Cp0 → List Row → ℕ → Bool
+twiceOf kind width cp0 t va = meetsTwo (modeOf (cp0 .status)) (record { kind = kind; width = width }) va t (cp0 .«entry_hi»)
 
 abbrev pub loadOf : LoadOp → ℕ → ℕ → ℕ → Cp0 → List Row → Sizes → Intent
 loadOf op rt base offset cp0 t sizes =

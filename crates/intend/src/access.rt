@@ -19,7 +19,7 @@ use reach::access::Width;
 use reach::plain::plain;
 use tlb::Row;
 
-fn load_width(op: LoadOp) -> Width
+pub fn load_width(op: LoadOp) -> Width
     ensures { λ r. ⌜ r ≡ loadWidth op ⌝ }
 {
     match op {
@@ -33,7 +33,7 @@ fn load_width(op: LoadOp) -> Width
     }
 }
 
-fn store_width(op: StoreOp) -> Width
+pub fn store_width(op: StoreOp) -> Width
     ensures { λ r. ⌜ r ≡ storeWidth op ⌝ }
 {
     match op {

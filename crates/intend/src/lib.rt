@@ -16,7 +16,7 @@ use isa::instr::Instr;
 use state::machine::Core;
 use tlb::Row;
 
-mod access; // loads and stores: the address and its answer
+pub mod access; // loads and stores: the address and its answer
 mod branch; // branches and jumps
 pub mod codes; // the exceptions' numbers
 mod control; // COP0

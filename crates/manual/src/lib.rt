@@ -75,6 +75,7 @@ fn run(out: &mut [u8], at: usize) -> usize {
           run exception [N]  runs until a step enters an exception, at most N steps\n\
           A step is one instruction, or the entry of an interrupt. Ctrl-C ends a run; what\n\
           it did so far is kept. Without N, run exception goes on until the exception.\n\
+          Every run stops before a step for which two entries of the table match.\n\
           Example: run 100000\n",
     )
 }

@@ -73,6 +73,8 @@ pub const WELCOME: u64 = 35;
 
 pub const WELCOME_NEW: u64 = 36;
 
+pub const TWO_MATCHES: u64 = 37;
+
 pub fn with(row: u64, stands: u64, a: u64, b: u64, c: u64) -> Message {
     Message {
         row,
@@ -142,7 +144,9 @@ fn reported(out: &mut [u8], at: usize, row: u64, values: [u64; 16]) -> usize {
         \n|\
         Lavushmir. Say help for what there is to say, quit to save and leave.\n|\
         Lavushmir. Say help for what there is to say, quit to save and leave.\n\
-        There is no station here yet: help new says how to make one.\n",
+        There is no station here yet: help new says how to make one.\n|\
+        %zRan %s, and stopped before the next one:\n\
+        two entries of the translation table match its address. info tlb shows them.\n",
         row,
         values,
     )

@@ -1,6 +1,7 @@
 pub mod Shown
 pub mod Delay
 pub mod Each
+pub mod Ending
 pub mod LineKeeps
 pub mod Notes
 pub mod Passed

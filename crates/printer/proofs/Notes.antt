@@ -13,7 +13,7 @@ use lib.ListN.{getD}
 use Rattle.word.proofs.Lists.{getD-tabulate, tabulate-ext}
 use Rattle.printer.specs.declared.Printer.{Printer}
 use Rattle.word.specs.Map.{bit, withBit}
-use Rattle.printer.specs.Tick.{noPrinter, roomOf, placeOf, prints, isBusy, someBusy, anyBusy}
+use Rattle.printer.specs.Tick.{noPrinter, roomOf, placeOf, prints, isBusy, someOf, anyBusy}
 use Rattle.printer.specs.Saved.{printingMap, savedByte, savedPaperOf, byteFits, paperFits, nothingSaved}
 use Rattle.printer.proofs.Each.{all-hold}
 use Rattle.word.proofs.Maps.{bit-told, bit-other, with-small}
@@ -51,11 +51,11 @@ module _ (printers : List Printer) (paper : List ℕ) where
       go k p false e = refl
 
   -- no printer prints where none is busy
-  idle-silent : (n : ℕ) → someBusy n printers ≡ false → (k : ℕ) → k < n → prints (roomOf paper) (getD printers k noPrinter) ≡ false
-  unfolding someBusy
+  idle-silent : (n : ℕ) → someOf isBusy n printers ≡ false → (k : ℕ) → k < n → prints (roomOf paper) (getD printers k noPrinter) ≡ false
+  unfolding someOf
   idle-silent zero e k h = absurd (omega arith)
   idle-silent (suc n) e k h =
-      let both = neither (someBusy n printers) (isBusy (getD printers n noPrinter)) e in
+      let both = neither (someOf isBusy n printers) (isBusy (getD printers n noPrinter)) e in
       elim (decLt k n) [
         | yes lower ↦ idle-silent n (both .0) k lower
         | no not-lower ↦ let last : k ≡ n = omega arith in rw (last, both .1)

@@ -7,7 +7,7 @@ use native.Mathlib.Numerals.{add-one}
 use lib.ListN.{getD, set}
 use lib.Seq.{set-getD}
 use Rattle.printer.specs.declared.Printer.{Printer}
-use Rattle.printer.specs.Tick.{Printing, printing, noPrinter, isBusy, printerTicked, paperTicked, tickOne, ticks, tickedOf, someBusy, anyBusy}
+use Rattle.printer.specs.Tick.{Printing, printing, noPrinter, isBusy, printerTicked, paperTicked, tickOne, ticks, tickedOf, someOf, anyBusy}
 
 -- neither of two
 pub neither : (a b : Bool) → (a || b) ≡ false → (a ≡ false) × (b ≡ false)
@@ -19,11 +19,11 @@ unfolding tickOne printerTicked paperTicked
 idle-one n s e =
     rw e (ap (λ (l : List Printer). printing l (s .line .pending) (s .paper)) (set-getD (s .line .printers) n noPrinter))
 
-idle-ticks : (n : ℕ) (s : Printing) → someBusy n (s .line .printers) ≡ false → ticks n s ≡ s
-unfolding ticks someBusy
+idle-ticks : (n : ℕ) (s : Printing) → someOf isBusy n (s .line .printers) ≡ false → ticks n s ≡ s
+unfolding ticks someOf
 idle-ticks zero s e = refl
 idle-ticks (suc n) s e =
-    let h = neither (someBusy n (s .line .printers)) (isBusy (getD (s .line .printers) n noPrinter)) e in
+    let h = neither (someOf isBusy n (s .line .printers)) (isBusy (getD (s .line .printers) n noPrinter)) e in
     rw (idle-ticks n s (h .0)) (idle-one n s (h .1))
 
 -- where no printer is busy, a tick leaves all as it is

@@ -90,13 +90,17 @@ pub record OneIs (n : ℕ) (p : Printer) (paper : List ℕ) (one : One) (after :
   pub finished-is : one .finished ≡ finishes p
   pub paper-is : after ≡ paperTicked n p paper
 
--- a printer among the first n is busy
-unfoldable pub someBusy : ℕ → List Printer → Bool
-someBusy zero printers = false
-someBusy (suc n) printers = someBusy n printers || isBusy (getD printers n noPrinter)
+-- a test holds of a printer among the first n
+unfoldable pub someOf : (Printer → Bool) → ℕ → List Printer → Bool
+someOf test zero printers = false
+someOf test (suc n) printers = someOf test n printers || test (getD printers n noPrinter)
 
 abbrev pub anyBusy : List Printer → Bool
-anyBusy printers = someBusy devices printers
+anyBusy printers = someOf isBusy devices printers
+
+-- a printer finishes at the next tick
+abbrev pub anyEnding : List Printer → Bool
+anyEnding printers = someOf finishes devices printers
 
 -- as many ticks as told
 unfoldable pub waitedOf : ℕ → Printing → Printing

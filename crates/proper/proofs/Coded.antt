@@ -60,7 +60,7 @@ module _ (kind : Kind) where
       picked CodedAfter (isValid row) _ _ (λ _. picked CodedAfter (isLocked kind row) _ _ (λ _. omega arith) (λ _. tt)) (λ _. tlb-coded)
 
   found-coded : (a : ℕ) (t : List Row) (found : Found) → CodedAfter (byFound kind a t found)
-  found-coded a t (At i) = row-coded a (getD t i noRow)
+  found-coded a t (At i second) = row-coded a (getD t i noRow)
   found-coded a t Nothing = tlb-coded
 
   translated-coded : (mode : Mode) (a : ℕ) (t : List Row) (entry : ℕ) → CodedAfter (translatedOf mode kind a t entry)

@@ -44,7 +44,7 @@ Means c pending (SetRow i row) = RowGood row
 Means c pending (Trap code coprocessor) = code ≤ 12
 
 probed-good : (pending : ℕ) (found : Found) → Good Index pending (probedOf found)
-probed-good pending (At i) =
+probed-good pending (At i second) =
     record {
       small = omega arith;
       kept = each-holds (2 ^ 6) (λ j. within 0x80003F00 (j * 2 ^ 8)) refl (i % 2 ^ 6) (mod-lt i (omega arith));

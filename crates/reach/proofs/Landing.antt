@@ -44,7 +44,7 @@ row-keeps kind a row =
     (λ _. tt)
 
 found-keeps : (kind : Kind) (a : ℕ) (t : List Row) (f : Found) → Keeps a (byFound kind a t f)
-found-keeps kind a t (At i) = row-keeps kind a (getD t i noRow)
+found-keeps kind a t (At i second) = row-keeps kind a (getD t i noRow)
 found-keeps kind a t Nothing = tt
 
 translated-keeps : (mode : Mode) (kind : Kind) (a : ℕ) (t : List Row) (entry : ℕ) → Keeps a (translatedOf mode kind a t entry)

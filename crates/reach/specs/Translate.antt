@@ -43,7 +43,7 @@ byRow kind a row =
     (Raises false (tlbError kind))
 
 abbrev pub byFound : Kind → ℕ → List Row → Found → Translated
-byFound kind a t (At i) = byRow kind a (getD t i noRow)
+byFound kind a t (At i second) = byRow kind a (getD t i noRow)
 byFound kind a t Nothing = Raises true (tlbError kind)
 
 abbrev pub isVirtual : Mode → ℕ → Bool

@@ -1,6 +1,6 @@
 // Document 01, "Addresses": where an access lands, or which exception it is.
 ghost use mathlib.Core.Path.{_≡_};
-ghost use Rattle.reach.specs.Reach.{busAfter, physicalOf};
+ghost use Rattle.reach.specs.Reach.{busAfter, physicalOf, meetsTwo};
 use access::Access;
 use board::places::Place;
 use board::places::Sizes;
@@ -45,4 +45,15 @@ pub fn landed(access: Access, sizes: Sizes, to: Translated) -> Reached
         Translated::To(p) => bus::on_bus(kind, width, sizes, p),
         Translated::Raises { miss, code } => Reached::Exception { miss, code },
     }
+}
+
+// Request L5: whether the access meets two matches. Alignment and privilege come first, and then no search is made.
+pub fn meets_two(mode: Mode, access: Access, a: u32, rows: [Row; 16], entry: u32) -> bool
+    ensures { λ r. ⌜ r ≡ meetsTwo mode access a rows entry ⌝ }
+{
+    let width = access.width;
+    if !check::checked(mode, width, a) {
+        return false;
+    }
+    translate::twice(mode, a, rows, entry)
 }

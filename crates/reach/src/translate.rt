@@ -1,13 +1,15 @@
 // The physical address of a virtual one, by the table.
 ghost use mathlib.Core.Path.{_≡_};
+ghost use mathlib.Core.Bool.{_&&_};
 ghost use Rattle.reach.specs.Translate.{tlbError, soughtOf, isLocked, byRow, byFound, isVirtual, translatedOf};
-ghost use Rattle.tlb.specs.Search.{foundIn};
+ghost use Rattle.tlb.specs.Search.{isTwice, foundIn};
 use crate::access::Kind;
 use crate::access::is_store;
 use crate::codes::MOD;
 use crate::codes::TLBL;
 use crate::codes::TLBS;
 use cp0::privilege::Mode;
+use tlb::First;
 use tlb::Found;
 use tlb::Row;
 use word::map::has_bit;
@@ -65,12 +67,12 @@ fn by_row(kind: Kind, a: u32, row: Row) -> Translated
 fn searched(kind: Kind, a: u32, rows: [Row; 16], entry: u32) -> Translated
     ensures { λ r. ⌜ r ≡ byFound kind a rows (foundIn (soughtOf a entry) rows) ⌝ }
 {
-    match tlb::search(rows, sought(a, entry)) {
-        Found::At(i) => {
+    match tlb::lowest(rows, sought(a, entry)) {
+        First::At(i) => {
             let row = tlb::read(rows, i);
             by_row(kind, a, row)
         }
-        Found::Nothing => Translated::Raises {
+        First::Nothing => Translated::Raises {
             miss: true,
             code: tlb_error(kind),
         },
@@ -93,4 +95,23 @@ pub fn translate(mode: Mode, kind: Kind, a: u32, rows: [Row; 16], entry: u32) ->
         return searched(kind, a, rows, entry);
     }
     Translated::To(a)
+}
+
+fn is_twice(found: Found) -> bool
+    ensures { λ r. ⌜ r ≡ isTwice found ⌝ }
+{
+    match found {
+        Found::At(_, second) => second,
+        Found::Nothing => false,
+    }
+}
+
+// Whether two entries match an address that is translated.
+pub fn twice(mode: Mode, a: u32, rows: [Row; 16], entry: u32) -> bool
+    ensures { λ r. ⌜ r ≡ (isVirtual mode a && isTwice (foundIn (soughtOf a entry) rows)) ⌝ }
+{
+    if is_virtual(mode, a) {
+        return is_twice(tlb::search(rows, sought(a, entry)));
+    }
+    false
 }

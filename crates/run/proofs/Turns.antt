@@ -21,7 +21,7 @@ use Rattle.decide.specs.declared.effect.Effect.{Effect}
 use Rattle.decide.specs.declared.effect.Effect.the-variants.{TlbRow}
 use Rattle.held.proofs.Board.{length-printers}
 use Rattle.step.specs.World.{World, Roms}
-use Rattle.step.specs.Step.{enters, raisesOf, stepOf}
+use Rattle.step.specs.Step.{enters, raisesOf, haltsOf, stepOf}
 use Rattle.step.specs.Note.{noteOf}
 use Rattle.turn.specs.Buffers.{Beside, romsIn}
 use Rattle.turn.specs.Turn.{worldHeld, TurnIs}
@@ -95,9 +95,9 @@ module _ (n budget : ℕ) (stop : Bool) {settings : Settings} {p p′ : Parts} {
     raises : raisesOf roms before ≡ enters known
     raises = ap enters (sym (turned .effect-is) ∙ told)
 
-    module _ (c₀ : Config F) (j : ℕ) (left : j < budget) (reached : Reached F n budget stop c₀ j here) where
+    module _ (c₀ : Config F) (j : ℕ) (left : j < budget) (reached : Reached F n budget stop c₀ j here) (once : haltsOf roms before ≡ false) where
       pub goes : (stop && enters known) ≡ false → Reached F n budget stop c₀ (j + 1) (there rows)
-      goes q = rw advances (reached-goes F n budget stop c₀ j here left reached refl (rw raises q))
+      goes q = rw advances (reached-goes F n budget stop c₀ j here left reached once (rw raises q))
 
       pub ends : (stop && enters known) ≡ true → ring.run F n budget stop c₀ ≡ ended (there rows) (j + 1) excepted
-      ends q = rw advances (reached-stops F n budget stop c₀ j here left reached refl (rw raises q))
+      ends q = rw advances (reached-stops F n budget stop c₀ j here left reached once (rw raises q))

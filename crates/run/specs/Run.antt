@@ -1,23 +1,23 @@
--- The machine of document 01 as `ring` runs it: the step, whether it enters an exception, and the record that it writes. Nothing halts it (that is request L5).
+-- The machine of documents 01 and 02 as `ring` runs it: the step, whether it enters an exception, whether it asks to halt before it (02, L5), and the record that it writes.
 use Prim.Native.Nat.{ℕ, _≤_}
-use mathlib.Core.Bool.{Bool, false}
+use mathlib.Core.Bool.{Bool}
 use mathlib.Core.Path.{_≡_}
 use lib.ListN.{length}
 use Rattle.word.specs.Sizes.{recordSize}
 use Rattle.ring.specs.Machine.{Forward}
-use Rattle.ring.specs.Run.{Why, Config, Ran, ended, spent, excepted}
+use Rattle.ring.specs.Run.{Why, Config, Ran, ended, spent, excepted, halted}
 use Rattle.ring.specs.Run as ring
 use Rattle.record.specs.Layout.{recordBytes}
 use Rattle.journal.specs.Journal.{slotsOf, ringOf, Ready}
 use Rattle.state.specs.declared.machine.Machine.{Machine}
 use Rattle.decide.specs.Lent.{Whole}
 use Rattle.step.specs.World.{World, Roms, worldIn}
-use Rattle.step.specs.Step.{raisesOf, stepOf}
+use Rattle.step.specs.Step.{raisesOf, haltsOf, stepOf}
 use Rattle.step.specs.Note.{noteOf}
 use Rattle.turn.specs.Buffers.{Beside, romsIn}
 use Rattle.turn.specs.Turn.{lentFrom}
 use Rattle.run.specs.declared.Stop.{Stop}
-use Rattle.run.specs.declared.Stop.the-variants.{Budget, Exception}
+use Rattle.run.specs.declared.Stop.the-variants.{Budget, Exception, TwoMatches}
 use Rattle.run.specs.declared.Outcome.{Outcome}
 
 abbrev pub forward : Roms → Forward
@@ -26,7 +26,7 @@ forward roms =
       State = World;
       step = stepOf roms;
       stops = raisesOf roms;
-      halts = λ w. false;
+      halts = haltsOf roms;
       size = recordSize;
       note = λ w. recordBytes (noteOf roms w);
     }
@@ -43,6 +43,7 @@ runOf budget stop m b = let roms = romsIn b in ring.run (forward roms) (slotsOf 
 abbrev pub reasonOf : Stop → Why
 reasonOf Budget = spent
 reasonOf Exception = excepted
+reasonOf TwoMatches = halted
 
 -- what rows 1 to 5 leave of what is lent
 pub record Fits (b : Beside) (m : Machine) : Type 0 where

@@ -4,6 +4,8 @@ ghost use mathlib.Core.Path.{_≡_};
 ghost use Rattle.turn.specs.Buffers.{besideOf};
 ghost use Rattle.run.specs.Run.{Fits, RunIs};
 ghost use Rattle.run.specs.Spin.{partsOf, machineOf, Ready, SpinIs};
+use crate::look::looked;
+use crate::look::next_look;
 use decide::effect::Effect;
 use decide::step::decide;
 use held::Held;
@@ -22,10 +24,13 @@ use turn::Parts;
 use turn::finish;
 use turn::start;
 
+mod look; // whether a run goes on
+
 // Why a run ended.
 pub enum Stop {
     Budget,
     Exception,
+    TwoMatches,
 }
 
 pub struct Outcome {
@@ -121,10 +126,25 @@ fn spin(
     let mut words = parts.words;
     let mut mark = parts.mark;
     let mut steps: u32 = 0;
+    let mut limit = next_look(rows, steps, budget);
     let why = loop {
-        if steps == budget {
-            break Stop::Budget;
+        let look = looked(
+            steps,
+            limit,
+            budget,
+            &core,
+            held,
+            &words,
+            &regs,
+            rows,
+            execution,
+            bootstrap,
+            ram,
+        );
+        if look.ends {
+            break look.why;
         }
+        limit = look.limit;
         let after = start(&mut core, held, settings, &mut words, paper, journal, mark);
         let now = core_in(&core);
         let d = decide(now, &regs, rows, execution, bootstrap, ram);
@@ -156,6 +176,7 @@ fn spin(
             Effect::TlbRow(i, row) => {
                 let written = tlb::write(rows, i as usize, row);
                 rows = written;
+                limit = next_look(rows, steps, budget);
             }
             Effect::Nothing => {}
             Effect::Register(_, _) => {}

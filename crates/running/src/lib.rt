@@ -1,7 +1,8 @@
-// run, stepi: some steps, until an exception stops them. A run of no steps judges the machine, before new, blame and before.
+// run, stepi: some steps, until an exception or two matches stop them. A run of no steps judges the machine, before new, blame and before.
 use blame::placed;
 use blame::search;
 use calls::Called;
+use calls::Ended;
 use calls::refused;
 use session::work::Asked;
 use session::work::Settings;
@@ -56,18 +57,23 @@ fn prepared(image: &mut [u8], work: Work, ram: usize) -> Worked {
     }
 }
 
-fn ran(image: &[u8], steps: u64, exception: bool) -> Worked {
-    if exception {
-        let code = image::word(image, image::CAUSE) / 4 % 32;
-        let place = image::word(image, image::EPC);
-        return Worked::Excepted(steps, code, place);
-    }
-    Worked::Ran(steps)
+fn excepted(image: &[u8], steps: u64) -> Worked {
+    let code = image::word(image, image::CAUSE) / 4 % 32;
+    let place = image::word(image, image::EPC);
+    Worked::Excepted(steps, code, place)
 }
 
-fn done(image: &[u8], work: Work, steps: u64, exception: bool) -> Worked {
+fn ran(image: &[u8], steps: u64, why: Ended) -> Worked {
+    match why {
+        Ended::Budget => Worked::Ran(steps),
+        Ended::Exception => excepted(image, steps),
+        Ended::TwoMatches => Worked::TwoMatches(steps),
+    }
+}
+
+fn done(image: &[u8], work: Work, steps: u64, why: Ended) -> Worked {
     match work {
-        Work::Run(_, _) => ran(image, steps, exception),
+        Work::Run(_, _) => ran(image, steps, why),
         Work::Make(_) => Worked::Made,
         _ => Worked::Nothing,
     }
@@ -75,7 +81,7 @@ fn done(image: &[u8], work: Work, steps: u64, exception: bool) -> Worked {
 
 fn told(image: &[u8], work: Work, answer: Called) -> Worked {
     match answer {
-        Called::Done(steps, exception) => done(image, work, steps, exception),
+        Called::Done(steps, why) => done(image, work, steps, why),
         Called::Refused(number) => Worked::Refused(number),
     }
 }

@@ -156,8 +156,8 @@ fn below(out: &mut [u8], at: usize, image: &[u8], table: u64) -> usize {
         at,
         b"HI %w  LO %w  PC %w  next PC %w\n\
         The next step runs the instruction at PC, the one after it that at next PC.\n|\
-        The lowest entry with the page, and with the ASID or G 1, counts. It needs V 1;\n\
-        a store needs D 1. N is kept and has no effect here.\n|\
+        An entry with the page, and with the ASID or G 1, counts. It needs V 1;\n\
+        a store needs D 1. A run stops before two that count. N has no effect here.\n|\
         Pending: it asks for an interrupt until its next command. To read: paper.\n",
         table,
         words,

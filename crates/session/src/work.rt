@@ -39,6 +39,8 @@ pub enum Worked {
     Ran(u64),
     // The steps, the last exception and where it was.
     Excepted(u64, u64, u64),
+    // The steps before the one that meets two matches.
+    TwoMatches(u64),
     TakenBack(u64),
     Found(Culprit),
     Stood(Culprit),

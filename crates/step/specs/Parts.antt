@@ -1,14 +1,18 @@
 -- The tick and the effect by parts, for functions that hold only some of them: proofs/Ticks.antt and Effects.antt show that together they are `tickOf` and `effectOf`.
 use Prim.Native.Nat.{ℕ}
-use mathlib.Core.Bool.{Bool}
+use mathlib.Core.Bool.{Bool, cond}
 use mathlib.Core.List.{List}
 use lib.ListN.{getD, set}
 use Rattle.bus.specs.Store.{busWriteOf}
 use Rattle.bus.specs.Words.{busWordOf}
 use Rattle.bus.specs.declared.read.Bus.{Bus}
+use Rattle.clock.specs.Tick as clock
 use Rattle.cp0.specs.Entry.{enteredOf}
 use Rattle.cp0.specs.Registers.{withRegister, withEntry}
+use Rattle.held.specs.Board.{printersIn}
+use Rattle.held.specs.declared.Held.{Held}
 use Rattle.memory.specs.Memory.{loadAt, storedAt}
+use Rattle.printer.specs.Tick.{anyEnding}
 use Rattle.printer.specs.declared.Printer.{Printer}
 use Rattle.tlb.specs.Entry.{noRow, readAt}
 use Rattle.tlb.specs.declared.Row.{Row}
@@ -26,6 +30,15 @@ use Rattle.step.specs.Apply.{withHiLo, withCp0, boardStored, linesStored
 -- the core after a tick; `pending` is the map after the printers' tick
 abbrev pub coreTicked : Bool → ℕ → Core → Core
 coreTicked rang pending c = withCp0 (linesTicked rang pending (randomTicked (c .cp0))) c
+
+-- a map that is 0 exactly if the one after the printers' tick is, which is all that Cause shows of it
+abbrev pub pendingAhead : ℕ → Bool → ℕ
+pendingAhead pending ending = cond ending 1 pending
+
+-- the core after the next tick, from what is held before it
+abbrev pub aheadOf : Core → Held → List ℕ → Core
+aheadOf core held words =
+    coreTicked (clock.tickedOf (held .clock) .rang) (pendingAhead (held .pending) (anyEnding (printersIn words))) core
 
 -- the registers; the bus is read only where the effect asks for it
 abbrev pub regsAfter : Bus → List Printer → Effect → List ℕ → List ℕ

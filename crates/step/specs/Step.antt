@@ -1,6 +1,7 @@
 -- ONE STEP, as document 01 has it: the tick, then interrupt entry or an instruction, decided from what the tick left, and its effect.
 use mathlib.Core.Bool.{Bool, true, false}
 use Rattle.decide.specs.Decide.{decideOf}
+use Rattle.decide.specs.Look.{meetsTwoOf}
 use Rattle.decide.specs.Lent.{sizesOf}
 use Rattle.decide.specs.declared.effect.Effect.{Effect}
 use Rattle.decide.specs.declared.effect.Effect.the-variants.{Nothing, Register, HiLo, Control, Entry, TlbRow, Ram, DeviceLoad, DeviceStore, Raise}
@@ -35,3 +36,7 @@ effectIn roms w = decisionIn roms (tickOf w) .effect
 -- does the step from here enter an exception
 abbrev pub raisesOf : Roms → World → Bool
 raisesOf roms w = enters (effectIn roms w)
+
+-- document 02, L5: does the machine ask to halt before the step from here: the step, "looked at with the tick in mind", meets two matches
+abbrev pub haltsOf : Roms → World → Bool
+haltsOf roms w = let t = tickOf w in meetsTwoOf (t .cpu .core) (t .cpu .regs) (t .cpu .tlb) (lentIn roms t)

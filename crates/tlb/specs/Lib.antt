@@ -1,3 +1,4 @@
 pub mod Entry
 pub mod Search
 pub mod Index
+pub mod Doubled

@@ -5,7 +5,9 @@ pub mod asm;
 pub mod dice;
 pub mod states;
 
-use reference::{decode, encode, keeps_rules, reset, Answer, Machine, Status, IMAGE_BYTES};
+use reference::{
+    decode, encode, keeps_rules, reset, Answer, Machine, Memory, NoRecord, Status, IMAGE_BYTES,
+};
 
 pub const RAM: u32 = 0x2000_0000;
 pub const BUS: u32 = 0x1000_0000;
@@ -160,6 +162,18 @@ impl Bench {
         assert!(answer.number != 0 || keeps_rules(&image, self.paper.len(), self.journal.len()));
         self.machine = decode(&image);
         answer
+    }
+
+    /// One step by its definition, in or out of a run, and without the journal.
+    /// Tells whether it entered an exception.
+    pub fn step(&mut self) -> bool {
+        let mut memory = Memory {
+            execution_rom: &self.execution,
+            bootstrap_rom: &self.bootstrap,
+            ram: &mut self.ram,
+            paper: &mut self.paper,
+        };
+        reference::step(&mut self.machine, &mut memory, &mut NoRecord)
     }
 
     /// Takes back from the records; a refusal has to leave everything.

@@ -123,6 +123,18 @@ fn cp0(dice: &mut Dice, machine: &mut Machine) {
     }
 }
 
+/// Leaves one entry to a page, so that a run does not stop before its first
+/// step. The others get pages that no address of these machines speaks of.
+fn apart(machine: &mut Machine) {
+    for number in 1..16 {
+        let (before, from) = machine.tlb.split_at_mut(number);
+        let page = |entry: &Entry| entry.high & 0xFFFF_F000;
+        if before.iter().any(|other| page(other) == page(&from[0])) {
+            from[0].high = 0x3000_0000 + 0x1000 * number as u32;
+        }
+    }
+}
+
 /// Goes on behind the instruction that raised the exception.
 const HANDLER: [u32; 4] = [mfc0(26, EPC), addiu(26, 26, 4), jr(26), RFE];
 
@@ -164,6 +176,9 @@ pub fn random_bench(dice: &mut Dice) -> Bench {
     };
     if dice.chance(3) {
         mapped(dice, machine);
+    }
+    if !dice.chance(4) {
+        apart(machine);
     }
     machine.next_pc = if dice.chance(8) { value(dice) } else { machine.pc.wrapping_add(4) };
     machine.clock = dice.long();

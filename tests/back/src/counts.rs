@@ -31,6 +31,7 @@ pub fn sequences(least: &mut Least, met: &sequence::Met) {
     least.each(&sequences::SLOTS, "slots:", &met.by_slots, &enough);
     least.met("runs", met.runs, 100_000);
     least.met("steps run", met.steps, 8_000_000);
+    least.met("runs that ended by two matches", met.halts, 1_000);
     least.met("take-backs of 0", met.zero, 10_000);
     least.met("take-backs of all on hand", met.all, 15_000);
     least.met("take-backs of one more", met.one_more, 5_000);

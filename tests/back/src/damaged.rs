@@ -22,9 +22,19 @@ const ON_A_LONG_ONE: u64 = 32;
 pub const SLOTS: [usize; 5] = [1, 2, 3, 17, LONGEST];
 pub const OTHER_LENGTHS: [&str; 3] = ["done", "refused with 5", "refused with 8"];
 
-/// A state from the reference alone; that the archive runs to the same is
-/// compared elsewhere.
+/// A state with steps on hand.
 fn ran(dice: &mut Dice, pool: &Pool, slots: usize) -> Call {
+    loop {
+        let call = tried(dice, pool, slots);
+        if decode(&call.image).on_hand > 0 {
+            return call;
+        }
+    }
+}
+
+/// A state from the reference alone; that the archive runs to the same is
+/// compared elsewhere. No step is taken where its first one meets two matches.
+fn tried(dice: &mut Dice, pool: &Pool, slots: usize) -> Call {
     let mut call = scene(dice, pool);
     if dice.chance(3) {
         together(dice, pool, &mut call);

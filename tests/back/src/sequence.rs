@@ -5,7 +5,7 @@ use crate::call::Call;
 use crate::report::{different, unpacked};
 use crate::sides::{Both, Buffers, Sides};
 use crate::stepped::Stepped;
-use reference::Answer;
+use reference::{Answer, TWO_MATCHES};
 
 const MOST_BUDGET: u64 = 1_000_000;
 
@@ -19,6 +19,7 @@ pub struct Met {
     pub by_slots: [u64; 6],
     pub runs: u64,
     pub steps: u64,
+    pub halts: u64,
     pub zero: u64,
     pub all: u64,
     pub one_more: u64,
@@ -114,6 +115,7 @@ impl Sequence<'_> {
         let steps = u64::from(answer.steps);
         self.met.runs += 1;
         self.met.steps += steps;
+        self.met.halts += u64::from(answer.reason == TWO_MATCHES);
         self.net += steps;
         if self.slots != 0 {
             self.on_hand = self.slots.min(self.on_hand + steps);

@@ -10,7 +10,7 @@ use crate::report::unpacked;
 use reference::{decode, Answer, Machine};
 
 /// What a call may write.
-#[derive(Clone)]
+#[derive(Clone, PartialEq, Eq)]
 pub struct Buffers {
     pub image: Vec<u8>,
     pub ram: Vec<u8>,

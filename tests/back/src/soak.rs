@@ -11,7 +11,7 @@ use crate::scene::STOPS;
 use crate::sides::{Both, Sides};
 use crate::starts::LONGEST;
 use crate::stepped::Stepped;
-use reference::{Answer, IMAGE_BYTES};
+use reference::{Answer, IMAGE_BYTES, TWO_MATCHES};
 
 const PROGRESS: u64 = 10_000_000;
 const MOST_BUDGET: u64 = 1_000_000;
@@ -68,6 +68,7 @@ fn count(dice: &mut Dice, on_hand: u32) -> u32 {
 
 fn checked(seed: u64, met: &Met, what: String, both: Both) -> Answer {
     let lines = match both {
+        Ok(answer) if answer.reason == TWO_MATCHES => vec!["met two matches".to_string()],
         Ok(answer) if answer.number == 0 => return answer,
         Ok(answer) => vec![format!("refused with {}", answer.number)],
         Err(lines) => lines,

@@ -1,7 +1,7 @@
 //! Every state that the reference had since the reset, kept whole, and what
 //! follows from them. No record is read.
 
-use reference::{encode, step, Machine, Memory, Recorder};
+use reference::{encode, step, step_meets_two, Machine, Memory, Recorder};
 use std::rc::Rc;
 
 pub const FRAME: usize = 4_096;
@@ -131,6 +131,7 @@ impl Past {
             ram: &mut self.ram,
             paper: &mut self.paper,
         };
+        assert!(!step_meets_two(&state.machine, &memory), "the programs have no page twice");
         state.entered = step(&mut state.machine, &mut memory, &mut touched);
         state.stored = touched.place;
         if let Some(place) = touched.place {

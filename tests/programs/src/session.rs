@@ -4,7 +4,7 @@ use crate::dice::Dice;
 use crate::lavushmir;
 use crate::mode::Mode;
 use crate::station::{Roms, Station};
-use reference::{reset, run_with_records, Machine, EXCEPTION};
+use reference::{reset, run_with_records, Machine, EXCEPTION, TWO_MATCHES};
 
 const INTERRUPT: u32 = 0;
 const MISS_ON_LOAD: u32 = 2;
@@ -114,6 +114,9 @@ impl Session<'_> {
         self.compared(&format!("a run of {budget}"), ours, answer.packed())?;
         if answer.number != 0 {
             return Err(format!("after {} steps: refused with {}", self.steps, answer.number));
+        }
+        if answer.reason == TWO_MATCHES {
+            return Err(format!("after {} steps: two matches", self.steps));
         }
         self.calls += 1;
         self.steps += u64::from(answer.steps);

@@ -6,19 +6,21 @@ use crate::call::{Call, Outcome};
 pub type CallCorner = (&'static str, u64, fn(&Call, &Outcome) -> bool);
 
 const EXCEPTION: u64 = 2;
+const TWO_MATCHES: u64 = 3;
 
 fn stopped(outcome: &Outcome) -> bool {
     outcome.reason() == EXCEPTION
 }
 
 #[rustfmt::skip]
-pub const CALLS: [CallCorner; 21] = [
+pub const CALLS: [CallCorner; 22] = [
     ("runs with budget 0", 500, |call, _| call.budget == 0),
     ("runs with budget 1", 10_000, |call, _| call.budget == 1),
     ("runs with budget 1,000,000", 500, |call, _| call.budget == 1_000_000),
     ("runs of 999,999 or 1,000,000 steps", 2, |_, outcome| outcome.steps() >= 999_999),
     ("runs that ended by the budget", 50_000, |_, outcome| outcome.reason() == 1),
     ("runs that ended by an exception", 50_000, |_, outcome| stopped(outcome)),
+    ("runs that ended by two matches", 2_000, |_, outcome| outcome.reason() == TWO_MATCHES),
     ("runs with both at the last step", 5_000, |call, outcome| {
         stopped(outcome) && outcome.steps() == call.budget
     }),

@@ -29,7 +29,7 @@ pub fn table(sight: &Sight) -> bool {
 }
 
 #[rustfmt::skip]
-pub const STEPS: [Corner; 36] = [
+pub const STEPS: [Corner; 35] = [
     ("steps in user mode", 100_000, |s| user_mode(s.before)),
     ("steps with translation on", 100_000, |s| translation(s.before)),
     ("steps in user mode with translation on", 50_000, |s| {
@@ -64,8 +64,7 @@ pub const STEPS: [Corner; 36] = [
     ("fetches that user mode must not make", 1_000, |s| {
         user_mode(s.before) && s.is(4) && s.data.is_none() && s.before.pc % 4 == 0
     }),
-    ("fetches with two rows that match", 5_000, |s| s.fetch.doubled),
-    ("loads with two rows that match", 1_000, |s| s.loads() && s.data.map_or(false, |r| r.doubled)),
+    ("interrupts at a fetch with two rows that match", 1_000, |s| s.is(0) && s.fetch.doubled),
     ("accesses that G lets through", 1_000, |s| s.data.map_or(false, |r| r.by_global)),
     ("misses by ASID alone", 1_000, |s| {
         s.data.map_or(false, |r| r.wrong_asid && r.row.is_none()) && (s.is(2) || s.is(3))

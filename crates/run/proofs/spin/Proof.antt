@@ -1,14 +1,14 @@
 -- `run::spin` meets its contract: at the loop's head the run from the start is the run from here, `steps` later. What a turn's calls ensure is one step (`turned-is`).
 -- The arms differ in what they know of the effect; `again` and `ends` take each of them from the turn's statement.
-use Prim.Native.Nat.{_≤_, _<_, _+_, _-_}
+use Prim.Native.Nat.{ℕ, _≤_, _<_, _+_, _-_}
 use mathlib.Core.Path.{_≡_, _∙_, refl, sym, ap}
-use mathlib.Core.Bool.{true, false, _&&_}
+use mathlib.Core.Bool.{Bool, true, false, _&&_}
 use mathlib.Core.List.{List}
 use native.Mathlib.Omega.{arith}
 use lib.ListN.{length}
 use Rattle.ring.specs.Run.{Config, ended, excepted}
 use Rattle.ring.specs.Run as ring
-use Rattle.ring.proofs.Run.{Reached, reached-start, reached-spent}
+use Rattle.ring.proofs.Run.{Reached, reached-start}
 use Rattle.journal.specs.Journal.{slotsOf}
 use Rattle.journal.specs.Journal as slots
 use Rattle.tlb.specs.declared.Row.{Row}
@@ -18,25 +18,29 @@ use Rattle.decide.specs.Range.{Within}
 use Rattle.decide.specs.declared.effect.Effect.{Effect}
 use Rattle.decide.specs.declared.effect.Decision.{Decision}
 use Rattle.held.specs.Board.{Told}
+use Rattle.held.specs.Core.{coreIn}
 use Rattle.held.proofs.Board.{length-printers}
 use Rattle.step.specs.World.{Roms, romsOf}
-use Rattle.step.specs.Parts.{rowsAfter}
-use Rattle.step.specs.Step.{enters}
+use Rattle.step.specs.Parts.{aheadOf, rowsAfter}
+use Rattle.step.specs.Step.{haltsOf, enters}
+use Rattle.decide.specs.Look.{meetsTwoOf}
+use Rattle.decide.proofs.Quiet.{meets-one}
 use Rattle.turn.specs.Buffers.{Beside, besideOf, romsIn}
-use Rattle.turn.specs.Turn.{lentFrom, TurnIs}
+use Rattle.turn.specs.Turn.{lentFrom, worldHeld, TurnIs}
 use Rattle.turn.specs.declared.Parts.{Parts}
 use Rattle.turn.proofs.Steps.{turned-is, partsLeft, decided-fits, still-ready}
 use Rattle.run.specs.Run.{forward}
 use Rattle.run.specs.Spin.{configOf}
 use Rattle.run.proofs.Turns as turns
+use Rattle.run.proofs.Looks.{NextLook, Goes, next-look, halts-ahead, look-ends, look-goes}
 use borrow.Author.Needs.{needs}
 use Rattle.run.proofs.spin.Statement.{statement}
 use Rattle.run.proofs.spin.Tie as tie
 
 -- everything at the loop's head, the lengths that stay, and how far the run is
 abbrev Inv-loop : tie.InvT-loop
-Inv-loop settings execution bootstrap ram₀ paper₀ journal₀ budget stop core₀ held₀ regs₀ rows₀ words₀ mark₀ steps₀ ram paper journal core held regs rows words mark steps =
-    (steps ≤ budget)
+Inv-loop settings execution bootstrap ram₀ paper₀ journal₀ budget stop core₀ held₀ regs₀ rows₀ words₀ mark₀ steps₀ limit₀ ram paper journal core held regs rows words mark steps limit =
+    NextLook rows steps budget limit
     × (length ram ≡ length ram₀)
     × (length paper ≡ length paper₀)
     × (length journal ≡ length journal₀)
@@ -52,7 +56,7 @@ Inv-loop settings execution bootstrap ram₀ paper₀ journal₀ budget stop cor
     (besideOf execution bootstrap ram paper journal))
 
 abbrev μ-loop : tie.MeasureT-loop
-μ-loop settings execution bootstrap ram₀ paper₀ journal₀ budget stop core₀ held₀ regs₀ rows₀ words₀ mark₀ steps₀ ram paper journal core held regs rows words mark steps = budget - steps
+μ-loop settings execution bootstrap ram₀ paper₀ journal₀ budget stop core₀ held₀ regs₀ rows₀ words₀ mark₀ steps₀ limit₀ ram paper journal core held regs rows words mark steps limit = budget - steps
 
 abbrev Head : Type 0
 Head = tie.At-loop Inv-loop μ-loop
@@ -75,11 +79,23 @@ read c = decided c .before .before .before
 abbrev started : After → tie.After-start Inv-loop μ-loop
 started c = read c .before .before .before .before .before .before
 
+abbrev Looked : Type 0
+Looked = tie.After-looked Inv-loop μ-loop
+
+abbrev single : After → tie.Else1 Inv-loop μ-loop
+single c = started c .before .before .before .before .before
+
+abbrev looked : After → Looked
+looked c = single c .before
+
+abbrev headOf : Looked → Head
+headOf l = l .before .before .before .before .before
+
 abbrev head : After → Head
-head c = started c .before .before .before .before .before .before
+head c = headOf (looked c)
 
 abbrev entry : Head → tie.Start Inv-loop μ-loop
-entry h = h .before .before .before .before .before .before .before .before .before .before .before .before
+entry h = h .before .before .before .before .before .before .before .before .before .before .before .before .before
 
 -- the parts and buffers of a turn's start
 abbrev partsAt : Head → Parts
@@ -91,11 +107,24 @@ besideAt h = let a = entry h .args in besideOf (a .execution .now) (a .bootstrap
 whole-at : (h : Head) → Whole (lentFrom (besideAt h))
 whole-at h = turns.still-whole (h .loop .inv .1) (entry h .pre .whole)
 
-within-at : (d : tie.After-decide Inv-loop μ-loop) → Within (length (d .before .before .before .before .before .before .before .before .before .before .before .before .before .before .before .loop .ram)) 16 (d .decide .result .effect)
-within-at d = let h = d .before .before .before .before .before .before .before .before .before .before .before .before .before .before .before in decided-fits (whole-at h) _ _ (h .loop .rows) (h .loop .inv .6) (d .decide .ensures)
+within-at : (d : tie.After-decide Inv-loop μ-loop) → Within (length (headOf (d .before .before .before .before .before .before .before .before .before .before .before .before .before .before .before) .loop .ram)) 16 (d .decide .result .effect)
+within-at d = let h = headOf (d .before .before .before .before .before .before .before .before .before .before .before .before .before .before .before) in decided-fits (whole-at h) _ _ (h .loop .rows) (h .loop .inv .6) (d .decide .ensures)
+
+-- what the look asked, and what it says of a step that is taken
+abbrev asks : Head → Bool
+asks h = let l = h .loop in meetsTwoOf (aheadOf (coreIn (l .core)) (l .held) (l .words)) (l .regs) (l .rows) (lentFrom (besideAt h))
+
+goes-at : (c : After) → let h = head c in Goes (h .loop .rows) (asks h) (h .loop .steps) (entry h .args .budget) (looked c .looked .result .limit)
+goes-at c =
+    let h = head c in
+    look-goes (h .loop .rows) (h .loop .steps) (h .loop .limit) (entry h .args .budget) (asks h) (looked c .looked .result) (looked c .looked .ensures) (h .loop .inv .0)
+    (meets-one _ (h .loop .regs) (h .loop .rows) (lentFrom (besideAt h))) (single c .if1 .left)
+
+once-at : (c : After) → let h = head c in haltsOf (romsIn (besideAt h)) (worldHeld (partsAt h) (entry h .args .settings) (besideAt h)) ≡ false
+once-at c = let h = head c in sym (halts-ahead (partsAt h) (entry h .args .settings) (besideAt h)) ∙ goes-at c .once
 
 left-of : (c : After) → head c .loop .steps < entry (head c) .args .budget
-left-of c = omega (arith, started c .before .before .before .before .before .if1 .left, head c .loop .inv .0)
+left-of c = goes-at c .left
 
 -- The turn's statement, the effect that the arm knows and what is left of the budget take the run one step on, or end it.
 module _ (c : After) where
@@ -133,7 +162,8 @@ module _ (c : After) where
   same : slotsOf (h .loop .journal) ≡ slotsOf (a .args .journal .now)
   same = rw (h .loop .inv .3)
 
-  module _ {e : Effect} (told : d .effect ≡ e) (rows : List Row) (put : rowsAfter e (h .loop .rows) ≡ rows) (long : length rows ≡ 16) where
+  module _ {e : Effect} (told : d .effect ≡ e) (rows : List Row) (put : rowsAfter e (h .loop .rows) ≡ rows) (long : length rows ≡ 16) (limit : ℕ)
+      (next : NextLook rows (h .loop .steps + 1) (a .args .budget) limit) where
     abbrev there : Config (forward roms)
     there = configOf roms (a .args .settings) (turns.withRows rows partsThen) besideThen
 
@@ -142,7 +172,7 @@ module _ (c : After) where
 
     abbrev Onward : Type 0
     Onward =
-        (h .loop .steps + 1 ≤ a .args .budget)
+        NextLook rows (h .loop .steps + 1) (a .args .budget) limit
         × (length (besideThen .ram) ≡ length (a .args .ram .now))
         × (length (besideThen .paper) ≡ length (a .args .paper .now))
         × (length (besideThen .journal) ≡ length (a .args .journal .now))
@@ -155,7 +185,7 @@ module _ (c : After) where
     again : (a .args .stop && enters e) ≡ false → Onward
     again q =
         let i = h .loop .inv in (
-          omega (arith, left-of c),
+          next,
           finished c .finish .kept .1 .1 .1 .1 .1 .1 .1 .1 .1 .0 ∙ i .1,
           started c .start .kept .1 .1 .1 .1 .0 ∙ i .2,
           journal-long ∙ i .3,
@@ -163,28 +193,37 @@ module _ (c : After) where
           turns.ready (slotsOf (a .args .journal .now)) (a .args .budget) (a .args .stop) turn-is journal-long (i .5),
           long,
           turn-is .twelve,
-          turns.goes _ _ (a .args .stop) turn-is same told rows left-rows from (h .loop .steps) (left-of c) (i .8) q,
+          turns.goes _ _ (a .args .stop) turn-is same told rows left-rows from (h .loop .steps) (left-of c) (i .8) (once-at c) q,
         )
 
     onward : enters e ≡ false → Onward
     onward quiet = again (rw quiet (turns.and-false (a .args .stop)))
 
     ends : (a .args .stop && enters e) ≡ true → ring.run (forward roms) (slotsOf (a .args .journal .now)) (a .args .budget) (a .args .stop) from ≡ ended there (h .loop .steps + 1) excepted
-    ends q = turns.ends _ _ (a .args .stop) turn-is same told rows left-rows from (h .loop .steps) (left-of c) (h .loop .inv .8) q
+    ends q = turns.ends _ _ (a .args .stop) turn-is same told rows left-rows from (h .loop .steps) (left-of c) (h .loop .inv .8) (once-at c) q
 
 -- an effect that sets no row
 stays : (c : After) {e : Effect} (told : decided c .decide .result .effect ≡ e) (same : rowsAfter e (head c .loop .rows) ≡ head c .loop .rows) → enters e ≡ false →
-    Onward c told (head c .loop .rows) same (head c .loop .inv .6)
-stays c told same quiet = onward c told (head c .loop .rows) same (head c .loop .inv .6) quiet
+    Onward c told (head c .loop .rows) same (head c .loop .inv .6) (looked c .looked .result .limit) (goes-at c .next)
+stays c told same quiet = onward c told (head c .loop .rows) same (head c .loop .inv .6) (looked c .looked .result .limit) (goes-at c .next) quiet
+
+next-look-requires : tie.Need-next-look-requires Inv-loop μ-loop
+next-look-requires c κs = search needs
 
 loop-holds : tie.Need-loop-holds Inv-loop μ-loop
 loop-holds c =
-    let start = c .before .before .before .before .before .before .before .before .before .before .before in
-    (omega arith, refl, refl, refl, start .pre .told, start .pre .ready, start .pre .table, start .pre .twelve, reached-start _ _ _ _ _)
+    let start = c .before .before .before .before .before .before .before .before .before .before .before .before in
+    (next-look _ 0 _ _ (omega arith) (c .next-look .ensures), refl, refl, refl, start .pre .told, start .pre .ready, start .pre .table, start .pre .twelve, reached-start _ _ _ _ _)
+
+looked-requires : tie.Need-looked-requires Inv-loop μ-loop
+looked-requires c κs =
+    let h = c .before .before .before .before in
+    let at = h .loop .inv .0 in
+    (omega (arith, at .below, at .most), whole-at h)
 
 start-requires : tie.Need-start-requires Inv-loop μ-loop
 start-requires c κs =
-    let h = c .before .before .before .before .before in
+    let h = headOf (c .before .before .before .before .before) in
     record {
       twelve = h .loop .inv .7;
       told = h .loop .inv .4;
@@ -196,7 +235,7 @@ core-in-requires : tie.Need-core-in-requires Inv-loop μ-loop
 core-in-requires c κs = search needs
 
 decide-requires : tie.Need-decide-requires Inv-loop μ-loop
-decide-requires c κs = whole-at (c .before .before .before .before .before .before .before .before .before .before .before .before .before .before)
+decide-requires c κs = whole-at (headOf (c .before .before .before .before .before .before .before .before .before .before .before .before .before .before))
 
 old-row-requires : tie.Need-old-row-requires Inv-loop μ-loop
 old-row-requires c κs = search needs
@@ -205,7 +244,7 @@ finish-requires : tie.Need-finish-requires Inv-loop μ-loop
 finish-requires c κs =
     let decided = c .before .before .before .before .before .before in
     let started = decided .before .before .before .before .before .before .before .before .before in
-    let h = started .before .before .before .before .before .before in
+    let h = headOf (started .before .before .before .before .before .before) in
     (still-ready _ (h .loop .inv .5) (length-printers (h .loop .words)) (started .start .ensures .1), (within-at decided, (started .start .ensures .0 .told, whole-at h)))
 
 add-steps : tie.Need-add-steps Inv-loop μ-loop
@@ -220,7 +259,7 @@ loop-less c = omega (arith, left-of (c .before .before .before))
 loop-again : tie.Need-loop-again Inv-loop μ-loop
 loop-again c =
     let m = c .before .before .before in
-    again m (c .before .enum-told .given .1) (head m .loop .rows) refl (head m .loop .inv .6) (rw (c .if2 .left))
+    again m (c .before .enum-told .given .1) (head m .loop .rows) refl (head m .loop .inv .6) (looked m .looked .result .limit) (goes-at m .next) (rw (c .if2 .left))
 
 enum-known-effect : tie.Need-enum-known-effect Inv-loop μ-loop
 enum-known-effect c = search needs
@@ -231,18 +270,24 @@ cast-write c = search needs
 write-requires : tie.Need-write-requires Inv-loop μ-loop
 write-requires c κs = search needs
 
+next-look-requires-2 : tie.Need-next-look-requires-2 Inv-loop μ-loop
+next-look-requires-2 c κs = search needs
+
 loop-less-2 : tie.Need-loop-less-2 Inv-loop μ-loop
-loop-less-2 c = omega (arith, left-of (c .before .before .before .before))
+loop-less-2 c = omega (arith, left-of (c .before .before .before .before .before))
 
 loop-again-2 : tie.Need-loop-again-2 Inv-loop μ-loop
 loop-again-2 c =
-    let known = c .before .before in
+    let wrote = c .before in
+    let known = wrote .before .before in
     let m = known .before .before in
     let rows = head m .loop .rows in
     let told = known .effect .given .1 in
     let few = rw (← head m .loop .inv .6) at (turns.in-rows _ 16 told (within-at (decided m))) in
-    onward m told (c .write .result) (sym (c .write .ensures ∙ written-row rows _ few _))
-    (ap (λ (l : List Row). length l) (c .write .ensures) ∙ length-written rows _ _ ∙ head m .loop .inv .6) refl
+    let left = left-of m in
+    onward m told (wrote .write .result) (sym (wrote .write .ensures ∙ written-row rows _ few _))
+    (ap (λ (l : List Row). length l) (wrote .write .ensures) ∙ length-written rows _ _ ∙ head m .loop .inv .6) (c .next-look2 .result)
+    (next-look (wrote .write .result) (head m .loop .steps + 1) _ (c .next-look2 .result) (omega arith) (c .next-look2 .ensures)) refl
 
 enum-told-2 : tie.Need-enum-told-2 Inv-loop μ-loop
 enum-told-2 c = search needs
@@ -317,18 +362,21 @@ loop-again-10 : tie.Need-loop-again-10 Inv-loop μ-loop
 loop-again-10 c = stays (c .before .before) (c .enum-told9 .given .1) refl refl
 
 same-length : tie.Need-same-length Inv-loop μ-loop
-same-length c = c .before .loop .inv .1
+same-length c = headOf (c .before) .loop .inv .1
 
 same-length-2 : tie.Need-same-length-2 Inv-loop μ-loop
-same-length-2 c = c .before .loop .inv .2
+same-length-2 c = headOf (c .before) .loop .inv .2
 
 same-length-3 : tie.Need-same-length-3 Inv-loop μ-loop
-same-length-3 c = c .before .loop .inv .3
+same-length-3 c = headOf (c .before) .loop .inv .3
 
 returns : tie.Need-returns Inv-loop μ-loop
 returns c =
-    let h = c .before .loop in
-    sym (reached-spent _ _ _ _ _ (h .steps) _ (c .if1 .taken) (h .inv .8))
+    let asked = c .before in
+    let h = headOf asked in
+    sym
+    (look-ends (h .loop .rows) (h .loop .steps) (h .loop .limit) (entry h .args .budget) (asks h) (asked .looked .result) (asked .looked .ensures) (h .loop .inv .0) _ _ _ _ _
+    (h .loop .inv .8) (sym (halts-ahead (partsAt h) (entry h .args .settings) (besideAt h))) (c .if1 .taken))
 
 same-length-4 : tie.Need-same-length-4 Inv-loop μ-loop
 same-length-4 c = let m = c .before .before .before in finished m .finish .kept .1 .1 .1 .1 .1 .1 .1 .1 .1 .0 ∙ head m .loop .inv .1
@@ -342,7 +390,7 @@ same-length-6 c = let m = c .before .before .before in journal-long m ∙ head m
 returns-2 : tie.Need-returns-2 Inv-loop μ-loop
 returns-2 c =
     let m = c .before .before .before in
-    sym (ends m (c .before .enum-told .given .1) (head m .loop .rows) refl (head m .loop .inv .6) (rw (c .if2 .taken)))
+    sym (ends m (c .before .enum-told .given .1) (head m .loop .rows) refl (head m .loop .inv .6) (looked m .looked .result .limit) (goes-at m .next) (rw (c .if2 .taken)))
 
 pub spin-spec : {M : Type 1} → statement M
 spin-spec =
@@ -350,7 +398,9 @@ spin-spec =
     (tie.spec
     Inv-loop
     μ-loop
+    next-look-requires
     loop-holds
+    looked-requires
     start-requires
     core-in-requires
     decide-requires
@@ -363,6 +413,7 @@ spin-spec =
     enum-known-effect
     cast-write
     write-requires
+    next-look-requires-2
     loop-less-2
     loop-again-2
     enum-told-2

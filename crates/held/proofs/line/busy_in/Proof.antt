@@ -3,20 +3,20 @@ use mathlib.Core.Path.{_≡_, refl}
 use Prim.Native.Nat.{_-_, _≤_, _<_}
 use native.Mathlib.Omega.{arith}
 use native.Mathlib.Numerals.{add-one}
-use Rattle.printer.specs.Tick.{someBusy}
+use Rattle.printer.specs.Tick.{isBusy, someOf}
 use Rattle.held.specs.Board.{printersIn}
 use Rattle.held.proofs.Stored.{printer-at}
 use Rattle.held.proofs.line.busy_in.Statement.{statement}
 use Rattle.held.proofs.line.busy_in.Tie as tie
 
 abbrev Inv-loop : tie.InvT-loop
-Inv-loop words some₀ n₀ some n = (n ≤ 8) × (some ≡ someBusy n (printersIn words))
+Inv-loop words some₀ n₀ some n = (n ≤ 8) × (some ≡ someOf isBusy n (printersIn words))
 
 abbrev μ-loop : tie.MeasureT-loop
 μ-loop words some₀ n₀ some n = 8 - n
 
 loop-holds : tie.Need-loop-holds Inv-loop μ-loop
-unfolding someBusy
+unfolding someOf
 loop-holds c = (omega arith, refl)
 
 mul-some : tie.Need-mul-some Inv-loop μ-loop
@@ -35,7 +35,7 @@ loop-less : tie.Need-loop-less Inv-loop μ-loop
 loop-less c = omega arith
 
 loop-again : tie.Need-loop-again Inv-loop μ-loop
-unfolding someBusy
+unfolding someOf
 loop-again c =
     let l = c .before .before .loop in
     let a = c .before .before .before .args in
