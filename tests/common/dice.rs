@@ -7,6 +7,13 @@ impl Dice {
         Dice(seed)
     }
 
+    /// Each of many things has dice of its own, so that one can be made without
+    /// the others.
+    pub fn of(seed: u64, number: u64) -> Dice {
+        let start = seed.wrapping_add(number.wrapping_mul(0xD6E8_FEB8_6659_FD93));
+        Dice::new(Dice::new(start).long())
+    }
+
     pub fn long(&mut self) -> u64 {
         self.0 = self.0.wrapping_add(0x9E37_79B9_7F4A_7C15);
         let mut z = self.0;

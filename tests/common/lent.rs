@@ -24,4 +24,10 @@ impl Lent {
         ];
         found.into_iter().find_map(|(name, wrong)| wrong.map(|what| format!("{name}: {what}")))
     }
+
+    /// What is wrong after a call that must not write at all, or None.
+    pub fn touched(&self) -> Option<String> {
+        let all = [&self.image, &self.ram, &self.paper, &self.journal];
+        self.wrong().or_else(|| all.iter().find_map(|buffer| buffer.touched()))
+    }
 }

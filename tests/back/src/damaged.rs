@@ -10,7 +10,6 @@ use crate::pool::Pool;
 use crate::record::*;
 use crate::report::different;
 use crate::scene::scene;
-use crate::sequences::dice_of;
 use crate::sides::Sides;
 use crate::starts::{together, LONGEST};
 use reference::{decode, encode, run_with_records};
@@ -133,7 +132,7 @@ pub fn compare(seed: u64, journals: u64) -> Met {
     };
     let mut number = 0;
     while met.journals < journals {
-        let mut dice = dice_of(seed, number);
+        let mut dice = Dice::of(seed, number);
         let what = format!("seed {seed}, journal {number}");
         let slots = match number % 500 {
             499 => LONGEST,
@@ -145,7 +144,7 @@ pub fn compare(seed: u64, journals: u64) -> Met {
     }
     for number in 0..journals / 10 {
         let what = format!("seed {seed}, other lengths {number}");
-        other_lengths(&mut dice_of(!seed, number), &pool, what, &mut met);
+        other_lengths(&mut Dice::of(!seed, number), &pool, what, &mut met);
     }
     met
 }

@@ -60,12 +60,21 @@ mod words;
 #[path = "../../run/src/wrong.rs"]
 mod wrong;
 
+#[path = "../../common/arguments.rs"]
+mod arguments;
 #[path = "../../common/dice.rs"]
 mod dice;
 #[path = "../../common/guarded.rs"]
 mod guarded;
 #[path = "../../common/lavushmir.rs"]
 mod lavushmir;
+#[allow(dead_code)]
+#[path = "../../common/least.rs"]
+mod least;
+#[path = "../../common/lending.rs"]
+mod lending;
+#[path = "../../common/lent.rs"]
+mod lent;
 
 mod asked;
 mod boot;
@@ -74,7 +83,6 @@ mod counts;
 mod damage;
 mod damaged;
 mod judge;
-mod least;
 mod program;
 mod record;
 mod refusals;
@@ -87,26 +95,12 @@ mod stepped;
 
 use counts::{JOURNALS, SEQUENCES, SOAK_STEPS};
 use least::Least;
-use std::env;
-use std::process::exit;
-
-const DEFAULT_SEED: u64 = 1;
-
-fn argument(place: usize, name: &str, otherwise: u64) -> u64 {
-    match env::args().nth(place) {
-        None => otherwise,
-        Some(text) => text.parse().unwrap_or_else(|_| {
-            eprintln!("back: the {name} is a number, not {text:?}");
-            exit(2)
-        }),
-    }
-}
 
 fn main() {
-    let seed = argument(1, "seed", DEFAULT_SEED);
-    let percent = argument(2, "percentage", 100);
+    let seed = arguments::seed();
+    let percent = arguments::amount("percentage", 100);
     println!("back: seed {seed}");
-    let least = &mut Least::new(percent);
+    let least = &mut Least::new(percent, 100);
     // Each part has dice of its own, so that one can change without the rest.
     counts::sequences(least, &sequences::compare(seed, SEQUENCES * percent / 100));
     counts::refusals(least, &refusals::compare(seed.wrapping_add(1 << 60), percent));

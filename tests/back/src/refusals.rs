@@ -41,7 +41,7 @@ impl Trial<'_> {
             Ok(answer) if number != 0 && (answer.steps, answer.reason) != (0, 0) => {
                 vec!["a refusal reported steps or a reason".to_string()]
             }
-            Ok(_) => match sides.touched().filter(|_| number != 0 || asked.steps == 0) {
+            Ok(_) => match sides.lent.touched().filter(|_| number != 0 || asked.steps == 0) {
                 None => return self.count(rows, number),
                 Some(touched) => vec![touched],
             },

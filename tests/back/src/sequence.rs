@@ -7,11 +7,6 @@ use crate::sides::{Both, Buffers, Sides};
 use crate::stepped::Stepped;
 use reference::{Answer, TWO_MATCHES};
 
-const MOST_BUDGET: u64 = 1_000_000;
-
-/// On hand and next slot are the image's last two words.
-const JOURNAL_WORDS: usize = 501 - 8;
-
 #[derive(Default)]
 pub struct Met {
     pub sequences: u64,
@@ -69,9 +64,7 @@ impl Sequence<'_> {
         let machine = sequence.sides.machine();
         sequence.on_hand = machine.on_hand.into();
         sequence.next_slot = machine.next_slot.into();
-        let Buffers { image, ram, paper, .. } = &sequence.sides.theirs;
-        let (image, ram, paper) = (image.clone(), ram.clone(), paper.clone());
-        sequence.began = Buffers { image, ram, paper, journal: Vec::new() };
+        sequence.began = sequence.sides.beginning();
         sequence
     }
 
@@ -164,28 +157,7 @@ impl Sequence<'_> {
 
     /// Demand 3: what was run less what was taken back, from the start.
     pub fn end(self) {
-        let Buffers { mut image, mut ram, mut paper, .. } = self.began.clone();
-        let Sides { execution, bootstrap, theirs, .. } = &self.sides;
-        image[JOURNAL_WORDS..].fill(0);
-        let mut left = self.net;
-        while left > 0 {
-            let answer = reference::run(
-                &mut image,
-                execution.content(),
-                bootstrap.content(),
-                &mut ram,
-                &mut paper,
-                &mut [],
-                left.min(MOST_BUDGET),
-                0,
-            );
-            assert!(answer.number == 0 && answer.steps > 0);
-            left -= u64::from(answer.steps);
-        }
-        let same = image[..JOURNAL_WORDS] == theirs.image[..JOURNAL_WORDS]
-            && ram == theirs.ram
-            && paper == theirs.paper;
-        if !same {
+        if !self.sides.is_behind(&self.began, self.net) {
             self.fail(vec![format!("not the state of {} steps from the start", self.net)]);
         }
     }

@@ -16,12 +16,6 @@ fn position<T: PartialEq>(all: &[T], one: &T) -> usize {
     all.iter().position(|other| other == one).expect("one of the list")
 }
 
-/// Each has dice of its own, so that one can be made without the others.
-pub fn dice_of(seed: u64, number: u64) -> Dice {
-    let start = Dice::new(seed.wrapping_add(number.wrapping_mul(0xD6E8_FEB8_6659_FD93))).long();
-    Dice::new(start)
-}
-
 fn budget(dice: &mut Dice, slots: u64) -> u64 {
     if slots > 100 {
         return match dice.below(8) {
@@ -87,7 +81,7 @@ pub fn compare(seed: u64, sequences: u64) -> Met {
     let mut met = Met::default();
     for number in 0..sequences {
         let what = format!("seed {seed}, sequence {number}");
-        one(&mut dice_of(seed, number), &pool, what, &mut met);
+        one(&mut Dice::of(seed, number), &pool, what, &mut met);
         if (number + 1) % PROGRESS == 0 {
             println!("back: {} sequences so far", number + 1);
         }

@@ -4,10 +4,14 @@
 use crate::call::Call;
 use crate::fields::byte_name;
 use crate::guarded::Guarded;
-use crate::lavushmir;
+use crate::lending;
+use crate::lent::Lent;
 use crate::names::{journal_byte, paper_byte, ram_byte};
 use crate::report::unpacked;
-use reference::{decode, Answer, Machine};
+use reference::{decode, Answer, Machine, IMAGE_BYTES};
+
+/// On hand and next slot are the image's last two words.
+pub const JOURNAL_WORDS: usize = IMAGE_BYTES - 8;
 
 /// What a call may write.
 #[derive(Clone, PartialEq, Eq)]
@@ -19,12 +23,7 @@ pub struct Buffers {
 }
 
 pub struct Sides {
-    pub execution: Guarded,
-    pub bootstrap: Guarded,
-    image: Guarded,
-    ram: Guarded,
-    paper: Guarded,
-    journal: Guarded,
+    pub lent: Lent,
     pub theirs: Buffers,
 }
 
@@ -32,16 +31,12 @@ pub struct Sides {
 pub type Both = Result<Answer, Vec<String>>;
 
 const MOST_LINES: usize = 12;
+const MOST_BUDGET: u64 = 1_000_000;
 
 impl Sides {
     pub fn new(call: Call) -> Sides {
         Sides {
-            execution: Guarded::new(&call.execution),
-            bootstrap: Guarded::new(&call.bootstrap),
-            image: Guarded::new(&call.image),
-            ram: Guarded::new(&call.ram),
-            paper: Guarded::new(&call.paper),
-            journal: Guarded::new(&call.journal),
+            lent: call.lent(),
             theirs: Buffers {
                 image: call.image,
                 ram: call.ram,
@@ -55,26 +50,18 @@ impl Sides {
         decode(&self.theirs.image)
     }
 
-    pub fn reset(&mut self, [time_scale, delay, installed]: [u64; 3]) -> Both {
-        let ours = lavushmir::reset(self.image.content_mut(), time_scale, delay, installed);
+    pub fn reset(&mut self, parameters: [u64; 3]) -> Both {
+        let ours = lending::reset(&mut self.lent, parameters);
+        let [time_scale, delay, installed] = parameters;
         let image = &mut self.theirs.image;
         let theirs = reference::reset(image, time_scale, delay, installed);
         self.compared(ours, theirs)
     }
 
     pub fn run(&mut self, budget: u64, stop: u64) -> Both {
-        let ours = lavushmir::run(
-            self.image.content_mut(),
-            self.execution.content(),
-            self.bootstrap.content(),
-            self.ram.content_mut(),
-            self.paper.content_mut(),
-            self.journal.content_mut(),
-            budget,
-            stop,
-        );
+        let ours = lending::run(&mut self.lent, budget, stop);
         let Buffers { image, ram, paper, journal } = &mut self.theirs;
-        let (execution, bootstrap) = (self.execution.content(), self.bootstrap.content());
+        let (execution, bootstrap) = (self.lent.execution.content(), self.lent.bootstrap.content());
         let theirs = reference::run_with_records(
             image, execution, bootstrap, ram, paper, journal, budget, stop,
         );
@@ -82,16 +69,38 @@ impl Sides {
     }
 
     pub fn take_back(&mut self, steps: u64) -> Both {
-        let ours = lavushmir::take_back(
-            self.image.content_mut(),
-            self.ram.content_mut(),
-            self.paper.content_mut(),
-            self.journal.content(),
-            steps,
-        );
+        let ours = lending::take_back(&mut self.lent, steps);
         let Buffers { image, ram, paper, journal } = &mut self.theirs;
         let theirs = reference::take_back(image, ram, paper, journal, steps);
         self.compared(ours, theirs)
+    }
+
+    /// What a machine that never goes back begins from: no journal.
+    pub fn beginning(&self) -> Buffers {
+        let Buffers { image, ram, paper, .. } = &self.theirs;
+        let (mut image, ram, paper) = (image.clone(), ram.clone(), paper.clone());
+        image[JOURNAL_WORDS..].fill(0);
+        Buffers { image, ram, paper, journal: Vec::new() }
+    }
+
+    /// Whether all but the journal is what so many steps from there leave.
+    pub fn is_behind(&self, beginning: &Buffers, steps: u64) -> bool {
+        let Buffers { mut image, mut ram, mut paper, .. } = beginning.clone();
+        let (execution, bootstrap) = (self.lent.execution.content(), self.lent.bootstrap.content());
+        let mut left = steps;
+        while left > 0 {
+            let budget = left.min(MOST_BUDGET);
+            let (image, ram, paper) = (&mut image, &mut ram, &mut paper);
+            let answer =
+                reference::run(image, execution, bootstrap, ram, paper, &mut [], budget, 0);
+            if u64::from(answer.steps) != budget {
+                return false;
+            }
+            left -= budget;
+        }
+        image[..JOURNAL_WORDS] == self.theirs.image[..JOURNAL_WORDS]
+            && ram == self.theirs.ram
+            && paper == self.theirs.paper
     }
 
     fn compared(&self, ours: u64, theirs: Answer) -> Both {
@@ -100,15 +109,13 @@ impl Sides {
             lines.push(format!("archive:   {}", unpacked(ours)));
             lines.push(format!("reference: {}", unpacked(theirs.packed())));
         }
-        for (name, rom) in [("execution", &self.execution), ("bootstrap", &self.bootstrap)] {
-            lines.extend(rom.touched().map(|what| format!("{name} ROM: {what}")));
-        }
-        let paper = |place| paper_byte(place, self.theirs.paper.len());
-        let Buffers { image, .. } = &self.theirs;
-        different("image", &self.image, image, &byte_name, &mut lines);
-        different("RAM", &self.ram, &self.theirs.ram, &ram_byte, &mut lines);
-        different("paper", &self.paper, &self.theirs.paper, &paper, &mut lines);
-        different("journal", &self.journal, &self.theirs.journal, &journal_byte, &mut lines);
+        lines.extend(self.lent.wrong());
+        let Sides { lent, theirs: Buffers { image, ram, paper, journal } } = self;
+        let paper_name = |place| paper_byte(place, paper.len());
+        different("image", &lent.image, image, &byte_name, &mut lines);
+        different("RAM", &lent.ram, ram, &ram_byte, &mut lines);
+        different("paper", &lent.paper, paper, &paper_name, &mut lines);
+        different("journal", &lent.journal, journal, &journal_byte, &mut lines);
         if lines.is_empty() {
             Ok(theirs)
         } else {
@@ -116,30 +123,24 @@ impl Sides {
         }
     }
 
-    /// What a refused call on buffers as they were made has written, if any.
-    pub fn touched(&self) -> Option<String> {
-        let all = [&self.image, &self.ram, &self.paper, &self.journal];
-        all.iter().find_map(|buffer| buffer.touched())
-    }
-
     /// Writes a record into both journals.
     pub fn set_record(&mut self, slot: usize, record: &[u8]) {
-        self.journal.content_mut()[256 * slot..][..256].copy_from_slice(record);
+        self.lent.journal.content_mut()[256 * slot..][..256].copy_from_slice(record);
         self.theirs.journal[256 * slot..][..256].copy_from_slice(record);
     }
 
     /// Writes all but the journals.
     pub fn restore(&mut self, image: &[u8], ram: &[u8], paper: &[u8]) {
-        self.image.content_mut().copy_from_slice(image);
-        self.ram.content_mut().copy_from_slice(ram);
-        self.paper.content_mut().copy_from_slice(paper);
+        self.lent.image.content_mut().copy_from_slice(image);
+        self.lent.ram.content_mut().copy_from_slice(ram);
+        self.lent.paper.content_mut().copy_from_slice(paper);
         self.theirs.image.copy_from_slice(image);
         self.theirs.ram.copy_from_slice(ram);
         self.theirs.paper.copy_from_slice(paper);
     }
 }
 
-/// Names the first few of the bytes that differ, and hurt guards.
+/// Names the first few of the bytes that differ.
 fn different(
     what: &str,
     ours: &Guarded,
@@ -147,7 +148,6 @@ fn different(
     name: &dyn Fn(usize) -> String,
     lines: &mut Vec<String>,
 ) {
-    lines.extend(ours.guards_hurt().map(|hurt| format!("{what}: {hurt}")));
     if ours.content() == theirs {
         return;
     }

@@ -17,9 +17,6 @@ const PROGRESS: u64 = 10_000_000;
 const MOST_BUDGET: u64 = 1_000_000;
 const RESET: [u64; 3] = [1, 4_001, 0xFF];
 
-/// On hand and next slot are the image's last two words.
-const JOURNAL_WORDS: usize = IMAGE_BYTES - 8;
-
 #[derive(Default)]
 pub struct Met {
     pub runs: u64,
@@ -84,8 +81,7 @@ pub fn compare(seed: u64, steps: u64) -> Met {
     let mut sides = Sides::new(start(dice));
     let both = sides.reset(RESET);
     checked(seed, &met, "reset".to_string(), both);
-    let (mut image, mut ram) = (sides.theirs.image.clone(), sides.theirs.ram.clone());
-    let mut paper = sides.theirs.paper.clone();
+    let began = sides.beginning();
     while met.net < steps {
         let stop = if dice.chance(8) { dice.pick(&STOPS) } else { 0 };
         let budget = budget(dice);
@@ -110,19 +106,7 @@ pub fn compare(seed: u64, steps: u64) -> Met {
             met.stepped.count(&machine, &sides.theirs.journal, count);
         }
     }
-    let mut left = met.net;
-    while left > 0 {
-        let (execution, bootstrap) = (sides.execution.content(), sides.bootstrap.content());
-        let part = left.min(MOST_BUDGET);
-        let (image, ram, paper) = (&mut image, &mut ram, &mut paper);
-        reference::run(image, execution, bootstrap, ram, paper, &mut [], part, 0);
-        left -= part;
-    }
-    let theirs = &sides.theirs;
-    let same = image[..JOURNAL_WORDS] == theirs.image[..JOURNAL_WORDS]
-        && ram == theirs.ram
-        && paper == theirs.paper;
-    if !same {
+    if !sides.is_behind(&began, met.net) {
         let what = format!("seed {seed}: not the state of {} steps from the reset", met.net);
         different("the soak", &[what]);
     }

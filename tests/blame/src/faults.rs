@@ -1,16 +1,7 @@
 //! Panels that are wrong on purpose: what a turn showed, or left behind, is made
 //! wrong before it is judged. Each must be noticed.
 
-macro_rules! faults {
-    ($($name:ident,)*) => {
-        #[derive(Clone, Copy, PartialEq, Eq, Debug)]
-        pub enum Fault {
-            $($name,)*
-        }
-
-        pub const FAULTS: &[Fault] = &[$(Fault::$name,)*];
-    };
-}
+use crate::named_faults::faults;
 
 faults! {
     OneStepMore,
@@ -56,16 +47,4 @@ faults! {
     BeforeTookOneMore,
     BeforeNoneGoesBack,
     BeforeRefusedWrites,
-}
-
-/// As words: OneStepMore is "one step more".
-pub fn name(fault: Fault) -> String {
-    let mut text = String::new();
-    for letter in format!("{fault:?}").chars() {
-        if letter.is_ascii_uppercase() && !text.is_empty() {
-            text.push(' ');
-        }
-        text.push(letter.to_ascii_lowercase());
-    }
-    text
 }

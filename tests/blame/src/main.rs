@@ -4,6 +4,8 @@
 //! `blame [SEED [HISTORIES]]`. Exit 0: all equal, all counts met, and every
 //! panel that is wrong on purpose noticed; 1: not so.
 
+#[path = "../../common/arguments.rs"]
+mod arguments;
 #[path = "../../../reference/tests/common/asm.rs"]
 mod asm;
 #[allow(dead_code)]
@@ -11,8 +13,11 @@ mod asm;
 mod dice;
 #[path = "../../common/guarded.rs"]
 mod guarded;
+#[allow(dead_code)]
 #[path = "../../common/lent.rs"]
 mod lent;
+#[path = "../../common/named_faults.rs"]
+mod named_faults;
 
 mod ask;
 mod faults;
@@ -33,26 +38,14 @@ mod wrong_states;
 use dice::Dice;
 use faults::FAULTS;
 use met::Met;
-use std::env;
 use std::panic::{catch_unwind, AssertUnwindSafe};
 use std::process::exit;
 
-const DEFAULT_SEED: u64 = 1;
 const DEFAULT_HISTORIES: u64 = 50_000;
 
-fn argument(place: usize, name: &str, otherwise: u64) -> u64 {
-    match env::args().nth(place) {
-        None => otherwise,
-        Some(text) => text.parse().unwrap_or_else(|_| {
-            eprintln!("blame: the {name} is a number, not {text:?}");
-            exit(2)
-        }),
-    }
-}
-
 fn main() {
-    let seed = argument(1, "seed", DEFAULT_SEED);
-    let histories = argument(2, "number of histories", DEFAULT_HISTORIES);
+    let seed = arguments::seed();
+    let histories = arguments::amount("number of histories", DEFAULT_HISTORIES);
     println!("blame: seed {seed}, {histories} histories");
     let dice = &mut Dice::new(seed);
     let met = &mut Met::default();

@@ -1,9 +1,10 @@
 //! Whether each panel that is wrong on purpose is noticed.
 
 use crate::dice::Dice;
-use crate::faults::{self, Fault, FAULTS};
+use crate::faults::{Fault, FAULTS};
 use crate::history::live;
 use crate::met::Met;
+use crate::named_faults::words;
 use std::panic::{catch_unwind, set_hook, take_hook, AssertUnwindSafe};
 use std::sync::Mutex;
 
@@ -35,7 +36,7 @@ pub fn all() -> bool {
     let found: Vec<_> = FAULTS.iter().map(|&fault| (fault, noticed(fault))).collect();
     set_hook(hook);
     for (fault, seen) in &found {
-        let name = faults::name(*fault);
+        let name = words(fault);
         match seen {
             Some((number, by)) => println!("blame: noticed in history {number:>3}: {name} ({by})"),
             None => eprintln!("blame: NOT NOTICED: {name}"),

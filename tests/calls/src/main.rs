@@ -3,6 +3,10 @@
 //!
 //! `calls [SEED]`. Exit 0: all equal and all counts met; 1: not so.
 
+#[allow(dead_code)]
+#[path = "../../common/arguments.rs"]
+mod arguments;
+#[allow(dead_code)]
 #[path = "../../common/dice.rs"]
 mod dice;
 #[path = "../../common/guarded.rs"]
@@ -25,23 +29,9 @@ mod seen;
 mod valid;
 
 use dice::Dice;
-use std::env;
-use std::process::exit;
-
-const DEFAULT_SEED: u64 = 1;
-
-fn seed() -> u64 {
-    match env::args().nth(1) {
-        None => DEFAULT_SEED,
-        Some(text) => text.parse().unwrap_or_else(|_| {
-            eprintln!("calls: the seed is a number, not {text:?}");
-            exit(2)
-        }),
-    }
-}
 
 fn main() {
-    let seed = seed();
+    let seed = arguments::seed();
     println!("calls: seed {seed}");
     // Each part has dice of its own, so that one can change without the rest.
     reset::compare(&mut Dice::new(seed));

@@ -1,16 +1,7 @@
 //! Runs that are wrong on purpose, in the place of the archive's. Each must be
 //! noticed.
 
-macro_rules! faults {
-    ($($name:ident,)*) => {
-        #[derive(Clone, Copy, PartialEq, Eq, Debug)]
-        pub enum Fault {
-            $($name,)*
-        }
-
-        pub const FAULTS: &[Fault] = &[$(Fault::$name,)*];
-    };
-}
+use crate::named_faults::faults;
 
 faults! {
     NeverHalts,
@@ -63,16 +54,4 @@ faults! {
     NextSlotMoves,
     RecordWritten,
     SecondRunGoesOn,
-}
-
-/// As words: PcMoves is "pc moves".
-pub fn name(fault: Fault) -> String {
-    let mut text = String::new();
-    for letter in format!("{fault:?}").chars() {
-        if letter.is_ascii_uppercase() && !text.is_empty() {
-            text.push(' ');
-        }
-        text.push(letter.to_ascii_lowercase());
-    }
-    text
 }

@@ -4,11 +4,8 @@
 use crate::dice::Dice;
 use crate::met::Met;
 use crate::scene::{scene, STOPS};
-use crate::sides::{Buffers, Sides};
-use reference::{Answer, IMAGE_BYTES, TWO_MATCHES};
-
-/// On hand and next slot are the image's last two words.
-const JOURNAL_WORDS: usize = IMAGE_BYTES - 8;
+use crate::sides::{Buffers, Sides, JOURNAL_WORDS};
+use reference::{Answer, TWO_MATCHES};
 
 struct History<'a> {
     sides: Sides,
@@ -61,17 +58,7 @@ impl History<'_> {
     }
 
     fn is_earlier(&self) -> Result<(), Vec<String>> {
-        let Buffers { mut image, mut ram, mut paper, .. } = self.began.clone();
-        let Sides { execution, bootstrap, theirs, .. } = &self.sides;
-        image[JOURNAL_WORDS..].fill(0);
-        let (rom, boot) = (execution.content(), bootstrap.content());
-        let none = &mut [];
-        let answer = reference::run(&mut image, rom, boot, &mut ram, &mut paper, none, self.net, 0);
-        let same = u64::from(answer.steps) == self.net
-            && image[..JOURNAL_WORDS] == theirs.image[..JOURNAL_WORDS]
-            && ram == theirs.ram
-            && paper == theirs.paper;
-        if same {
+        if self.sides.is_behind(&self.began, self.net) {
             Ok(())
         } else {
             Err(vec![format!("not the state of {} steps from the start", self.net)])
@@ -120,7 +107,7 @@ pub fn one(dice: &mut Dice, bytes: &[u8], met: &mut Met) -> Result<(), Vec<Strin
     call.image[JOURNAL_WORDS..].fill(0);
     let first = call.budget;
     let sides = Sides::new(call);
-    let began = sides.theirs.clone();
+    let began = sides.beginning();
     met.histories += 1;
     let slots = slots as u64;
     let mut history = History { sides, began, slots, net: 0, halted: false, met };

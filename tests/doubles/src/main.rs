@@ -21,26 +21,34 @@ mod call;
 mod names;
 
 #[allow(dead_code)]
-#[path = "../../back/src/least.rs"]
-mod least;
-#[allow(dead_code)]
 #[path = "../../back/src/sides.rs"]
 mod sides;
 
-#[path = "../../common/lavushmir.rs"]
+#[path = "../../common/lending.rs"]
 mod archive;
+#[path = "../../common/arguments.rs"]
+mod arguments;
 #[allow(dead_code)]
 #[path = "../../common/dice.rs"]
 mod dice;
 #[path = "../../common/guarded.rs"]
 mod guarded;
+#[path = "../../common/lavushmir.rs"]
+mod lavushmir;
+#[path = "../../common/least.rs"]
+mod least;
+#[allow(dead_code)]
+#[path = "../../common/lent.rs"]
+mod lent;
+#[path = "../../common/named_faults.rs"]
+mod named_faults;
 
 mod code;
 mod faults;
 mod halts;
 mod histories;
 mod kinds;
-mod lavushmir;
+mod lending;
 mod lines;
 mod look;
 mod met;
@@ -58,42 +66,28 @@ use dice::Dice;
 use least::Least;
 use met::{Met, HISTORIES, RUNS};
 use report::different;
-use runs::dice_of;
-use std::env;
 use std::process::exit;
-
-const DEFAULT_SEED: u64 = 1;
 
 /// Enough for the longest of the lent buffers.
 const MOST_BYTES: usize = 2 * 4_096;
 
-fn argument(place: usize, name: &str, otherwise: u64) -> u64 {
-    match env::args().nth(place) {
-        None => otherwise,
-        Some(text) => text.parse().unwrap_or_else(|_| {
-            eprintln!("doubles: the {name} is a number, not {text:?}");
-            exit(2)
-        }),
-    }
-}
-
 fn main() {
-    let seed = argument(1, "seed", DEFAULT_SEED);
-    let percent = argument(2, "percentage", 100);
+    let seed = arguments::seed();
+    let percent = arguments::amount("percentage", 100);
     println!("doubles: seed {seed}");
     let bytes = Dice::new(seed).bytes(MOST_BYTES);
     let met = &mut Met::new();
     for run in 0..RUNS * percent / 100 {
-        if let Err(lines) = runs::one(&mut dice_of(seed, run), &bytes, met) {
+        if let Err(lines) = runs::one(&mut Dice::of(seed, run), &bytes, met) {
             different(&format!("seed {seed}, run {run}"), &lines);
         }
     }
     for history in 0..HISTORIES * percent / 100 {
-        if let Err(lines) = histories::one(&mut dice_of(!seed, history), &bytes, met) {
+        if let Err(lines) = histories::one(&mut Dice::of(!seed, history), &bytes, met) {
             different(&format!("seed {seed}, history {history}"), &lines);
         }
     }
-    let least = &mut Least::new(percent);
+    let least = &mut Least::new(percent, 100);
     met.print(least);
     if !noticed::all(&bytes) {
         exit(1);

@@ -2,7 +2,7 @@
 
 use crate::halts::HALTS;
 use crate::kinds::{KindMet, TAKEN};
-use crate::least::Least;
+use crate::least::{lowest, Least};
 use crate::sight::Sight;
 
 pub const RUNS: u64 = 200_000;
@@ -81,9 +81,17 @@ impl Met {
         let reasons = ["the budget", "an exception", "two matches"];
         least.each(&reasons, "ended by", &self.by_reason[1..], &[60_000, 30_000, 30_000]);
         println!("doubles: halts");
-        print(least, &self.halts, &HALTS);
-        least.met("the lowest match seen least, of entries 0 to 14", few(&self.lowest[..15]), 150);
-        least.met("the second match seen least, of entries 1 to 15", few(&self.second[1..]), 1_000);
+        least.kinds(&self.halts, &HALTS);
+        least.met(
+            "the lowest match seen least, of entries 0 to 14",
+            lowest(&self.lowest[..15]),
+            150,
+        );
+        least.met(
+            "the second match seen least, of entries 1 to 15",
+            lowest(&self.second[1..]),
+            1_000,
+        );
         let slots = ["no slots", "one slot", "more slots"];
         least.each(&slots, "halts with", &self.by_slots, &[5_000, 5_000, 20_000]);
         least.met("second runs, stopped at once", self.again, 10_000);
@@ -91,7 +99,7 @@ impl Met {
         least.met("runs of just that budget, to the same bytes", self.just_that_budget, 4_000);
         least.met("stopped at an exception, and halted in the next run", self.behind_a_stop, 1_000);
         println!("doubles: two matches or nearly, and no halt");
-        print(least, &self.taken, &TAKEN);
+        least.kinds(&self.taken, &TAKEN);
         println!("doubles: histories");
         least.met("histories", self.histories, HISTORIES);
         least.met("runs", self.history_runs, 40_000);
@@ -106,18 +114,8 @@ impl Met {
     }
 }
 
-fn few(counts: &[u64]) -> u64 {
-    counts.iter().copied().min().unwrap_or(0)
-}
-
 fn count(counts: &mut [u64], kinds: &[KindMet], sight: &Sight) {
     for (count, (_, _, met)) in counts.iter_mut().zip(kinds) {
         *count += u64::from(met(sight));
-    }
-}
-
-fn print(least: &mut Least, counts: &[u64], kinds: &[KindMet]) {
-    for (count, (name, enough, _)) in counts.iter().zip(kinds) {
-        least.met(name, *count, *enough);
     }
 }

@@ -1,9 +1,10 @@
 //! Whether each run that is wrong on purpose is noticed.
 
-use crate::faults::{name, Fault, FAULTS};
-use crate::lavushmir::set_fault;
+use crate::dice::Dice;
+use crate::faults::{Fault, FAULTS};
+use crate::lending::set_fault;
 use crate::met::Met;
-use crate::runs::dice_of;
+use crate::named_faults::words;
 use crate::{histories, runs};
 
 const SEED: u64 = 1;
@@ -13,9 +14,9 @@ const MOST: u64 = 4_000;
 fn noticed(fault: Fault, bytes: &[u8]) -> (Option<u64>, Option<u64>) {
     set_fault(Some(fault));
     let met = &mut Met::new();
-    let run = (0..MOST).find(|run| runs::one(&mut dice_of(SEED, *run), bytes, met).is_err());
+    let run = (0..MOST).find(|run| runs::one(&mut Dice::of(SEED, *run), bytes, met).is_err());
     let history =
-        (0..MOST).find(|one| histories::one(&mut dice_of(!SEED, *one), bytes, met).is_err());
+        (0..MOST).find(|one| histories::one(&mut Dice::of(!SEED, *one), bytes, met).is_err());
     set_fault(None);
     (run, history)
 }
@@ -26,11 +27,11 @@ pub fn all(bytes: &[u8]) -> bool {
     for fault in FAULTS {
         match noticed(*fault, bytes) {
             (Some(run), Some(history)) => {
-                let name = name(*fault);
+                let name = words(fault);
                 println!("doubles: noticed in run {run:>4} and history {history:>4}: {name}");
             }
             (run, history) => {
-                println!("doubles: NOT NOTICED: {}: {run:?}, {history:?}", name(*fault));
+                println!("doubles: NOT NOTICED: {}: {run:?}, {history:?}", words(fault));
                 all = false;
             }
         }

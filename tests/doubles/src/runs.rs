@@ -12,12 +12,6 @@ use reference::{Answer, BUDGET_SPENT, EXCEPTION, TWO_MATCHES};
 /// Enough to come back from a handler, and to what follows.
 const MORE: u64 = 12;
 
-/// Each run has dice of its own, so that one can be made without the others.
-pub fn dice_of(seed: u64, run: u64) -> Dice {
-    let start = Dice::new(seed.wrapping_add(run.wrapping_mul(0xD6E8_FEB8_6659_FD93))).long();
-    Dice::new(start)
-}
-
 pub fn one(dice: &mut Dice, bytes: &[u8], met: &mut Met) -> Result<(), Vec<String>> {
     let call = scene(dice, bytes);
     let mut sides = Sides::new(call.clone());

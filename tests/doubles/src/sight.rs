@@ -3,7 +3,7 @@
 use crate::asm::TLBP;
 use crate::call::Call;
 use crate::look::{look, Access, Kind, Look};
-use reference::{decode, step, Answer, Machine, Memory, NoRecord, TWO_MATCHES};
+use reference::{decode, step, Answer, Machine, NoRecord, TWO_MATCHES};
 
 /// What became of a step that was looked at.
 #[derive(Clone, Copy, PartialEq, Eq)]
@@ -77,12 +77,7 @@ impl Sight<'_> {
 pub fn watch(call: &Call, answer: Answer, mut show: impl FnMut(&Sight)) -> Result<(), Vec<String>> {
     let mut machine = decode(&call.image);
     let (mut ram, mut paper) = (call.ram.clone(), call.paper.clone());
-    let mut memory = Memory {
-        execution_rom: &call.execution,
-        bootstrap_rom: &call.bootstrap,
-        ram: &mut ram,
-        paper: &mut paper,
-    };
+    let mut memory = call.memory(&mut ram, &mut paper);
     let (mut last_word, mut entered) = (None, 0);
     for steps in 0..=u64::from(answer.steps) {
         let before = machine.clone();

@@ -3,6 +3,8 @@
 //!
 //! `lines [SEED [LINES]]`. Exit 0: all equal and all counts met; 1: not so.
 
+#[path = "../../common/arguments.rs"]
+mod arguments;
 #[allow(dead_code)]
 #[path = "../../common/dice.rs"]
 mod dice;
@@ -19,24 +21,12 @@ mod mutate;
 use dice::Dice;
 use lines::{Page, NOTHING, REFUSED};
 use met::Met;
-use std::env;
 use std::process::exit;
 
-const DEFAULT_SEED: u64 = 1;
 const DEFAULT_LINES: u64 = 100_000;
 
 /// Longer lines, of any bytes, are cut at so many places from their start.
 const MOST_CUTS: usize = 400;
-
-fn argument(place: usize, name: &str, otherwise: u64) -> u64 {
-    match env::args().nth(place) {
-        None => otherwise,
-        Some(text) => text.parse().unwrap_or_else(|_| {
-            eprintln!("lines: the {name} is a number, not {text:?}");
-            exit(2)
-        }),
-    }
-}
 
 fn compare(page: &Page, line: &[u8], met: &mut Met) -> u64 {
     let (ours, theirs) = (page.read(line), archive::heard(line));
@@ -72,8 +62,8 @@ fn any_line(dice: &mut Dice, met: &mut Met) -> Vec<u8> {
 }
 
 fn main() {
-    let seed = argument(1, "seed", DEFAULT_SEED);
-    let lines = argument(2, "number of lines", DEFAULT_LINES);
+    let seed = arguments::seed();
+    let lines = arguments::amount("number of lines", DEFAULT_LINES);
     println!("lines: seed {seed}, {lines} lines, each cut at every byte");
     let dice = &mut Dice::new(seed);
     let met = &mut Met::default();

@@ -1,5 +1,9 @@
 //! One call of run: what is lent, and what the reference makes of it.
 
+use crate::guarded::Guarded;
+use crate::lent::Lent;
+use reference::Memory;
+
 #[derive(Clone)]
 pub struct Call {
     pub image: Vec<u8>,
@@ -39,6 +43,23 @@ impl Outcome {
 impl Call {
     pub fn slots(&self) -> usize {
         self.journal.len() / 256
+    }
+
+    /// To be lent to the archive, again and again.
+    pub fn lent(&self) -> Lent {
+        Lent {
+            image: Guarded::new(&self.image),
+            execution: Guarded::new(&self.execution),
+            bootstrap: Guarded::new(&self.bootstrap),
+            ram: Guarded::new(&self.ram),
+            paper: Guarded::new(&self.paper),
+            journal: Guarded::new(&self.journal),
+        }
+    }
+
+    /// For the reference's steps: the ROMs as they are, RAM and paper as copies.
+    pub fn memory<'a>(&'a self, ram: &'a mut [u8], paper: &'a mut [u8]) -> Memory<'a> {
+        Memory { execution_rom: &self.execution, bootstrap_rom: &self.bootstrap, ram, paper }
     }
 
     /// What the reference answers and leaves, with this budget.

@@ -4,9 +4,8 @@ use crate::access_corners::ACCESSES;
 use crate::book;
 use crate::call_corners::CALLS;
 use crate::corners::STEPS;
+use crate::least::{lowest, Least};
 use crate::seen::{Seen, VECTORS};
-use std::fmt::Display;
-use std::process::exit;
 
 /// The number of runs that the least counts are made for.
 pub const RUNS: u64 = 200_000;
@@ -16,35 +15,8 @@ const CODES: [&str; 13] = [
     "10 RI", "11 CpU", "12 Ov",
 ];
 
-/// With fewer runs, half as much in proportion has to be met. All counts are
-/// printed before the program ends for those that are too low.
-struct Least {
-    runs: u64,
-    too_few: Vec<String>,
-}
-
-impl Least {
-    fn met(&mut self, what: impl Display, count: u64, least: u64) {
-        let least = if self.runs < RUNS { least * self.runs / RUNS / 2 } else { least };
-        println!("  {what}: {count}");
-        if count < least {
-            self.too_few.push(format!("TOO FEW: {what}: {count}, expected at least {least}"));
-        }
-    }
-
-    fn corners<Met>(&mut self, counts: &[u64], corners: &[(&str, u64, Met)]) {
-        for (count, (name, least, _)) in counts.iter().zip(corners) {
-            self.met(name, *count, *least);
-        }
-    }
-}
-
-fn lowest(counts: &[u64]) -> u64 {
-    counts.iter().copied().min().unwrap_or(0)
-}
-
 pub fn print(seen: &Seen) {
-    let mut least = Least { runs: seen.runs, too_few: Vec::new() };
+    let mut least = Least::new(seen.runs, RUNS);
     println!("run: runs");
     least.met("runs", seen.runs, RUNS);
     least.met("steps in all", seen.steps, 3_000_000);
@@ -54,7 +26,7 @@ pub fn print(seen: &Seen) {
     least.met("runs in user mode with translation on", seen.both_runs, 20_000);
     least.met("rounds of the journal, 2 slots or more", seen.wraps, 100_000);
     least.met("runs on which a full journal stayed full", seen.full_journals, 50_000);
-    least.corners(&seen.calls_met, &CALLS);
+    least.kinds(&seen.calls_met, &CALLS);
 
     println!("run: exceptions entered");
     for (name, count) in CODES.iter().zip(seen.by_code) {
@@ -88,16 +60,13 @@ pub fn print(seen: &Seen) {
     );
 
     println!("run: corners of a step");
-    least.corners(&seen.steps_met, &STEPS);
+    least.kinds(&seen.steps_met, &STEPS);
     println!("run: loads and stores");
-    least.corners(&seen.accesses_met, &ACCESSES);
+    least.kinds(&seen.accesses_met, &ACCESSES);
     least.met("the device word read least often", lowest(&seen.device_loads), 50);
     least.met("the device word written least often", lowest(&seen.device_stores), 50);
     printers(seen, &mut least);
-    if !least.too_few.is_empty() {
-        println!("{}", least.too_few.join("\n"));
-        exit(1);
-    }
+    least.end();
 }
 
 fn printers(seen: &Seen, least: &mut Least) {

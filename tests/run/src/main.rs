@@ -3,6 +3,8 @@
 //!
 //! `run [SEED [RUNS]]`. Exit 0: all equal and all counts met; 1: not so.
 
+#[path = "../../common/arguments.rs"]
+mod arguments;
 #[path = "../../calls/src/breaches.rs"]
 mod breaches;
 #[allow(dead_code)]
@@ -16,6 +18,12 @@ mod guarded;
 #[allow(dead_code)]
 #[path = "../../common/lavushmir.rs"]
 mod lavushmir;
+#[allow(dead_code)]
+#[path = "../../common/least.rs"]
+mod least;
+#[allow(dead_code)]
+#[path = "../../common/lending.rs"]
+mod lending;
 #[path = "../../common/lent.rs"]
 mod lent;
 #[allow(dead_code)]
@@ -58,24 +66,10 @@ mod words;
 mod wrong;
 
 use dice::Dice;
-use std::env;
-use std::process::exit;
-
-const DEFAULT_SEED: u64 = 1;
-
-fn argument(place: usize, name: &str, otherwise: u64) -> u64 {
-    match env::args().nth(place) {
-        None => otherwise,
-        Some(text) => text.parse().unwrap_or_else(|_| {
-            eprintln!("run: the {name} is a number, not {text:?}");
-            exit(2)
-        }),
-    }
-}
 
 fn main() {
-    let seed = argument(1, "seed", DEFAULT_SEED);
-    let runs = argument(2, "count of runs", counts::RUNS);
+    let seed = arguments::seed();
+    let runs = arguments::amount("count of runs", counts::RUNS);
     println!("run: seed {seed}");
     // Each part has dice of its own, so that one can change without the rest.
     let seen = runs::compare(seed, runs);

@@ -4,7 +4,6 @@ use crate::call::Call;
 use crate::dice::Dice;
 use crate::difference::explain;
 use crate::lengths::Lengths;
-use crate::lent::Lent;
 use crate::pool::Pool;
 use crate::report::different;
 use crate::scene::STOPS;
@@ -69,12 +68,12 @@ pub fn one(call: &Call, rows: &[u8], what: &str, counts: &mut Counts) {
         let line = format!("the reference answered {}, not {number}", expected.number());
         different("refusals", &[what.to_string(), line]);
     }
-    let mut lent = Lent::new(call);
+    let mut lent = call.lent();
     let answer = lent.run(call.budget, call.stop);
     let right = if number == 0 {
         answer == Ok(expected.answer) && lent.outcome(expected.answer) == expected
     } else {
-        answer == Ok(u64::from(number)) && lent.any_touched().is_none()
+        answer == Ok(u64::from(number)) && lent.touched().is_none()
     };
     if !right {
         explain(what, call);

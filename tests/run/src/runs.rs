@@ -17,12 +17,6 @@ const LONG: u64 = 1_000;
 /// How many runs may go on to a budget that is longer than that.
 const LONG_RUNS: u32 = 2;
 
-/// Each run has dice of its own, so that one can be made without the others.
-pub fn dice_of(seed: u64, run: u64) -> Dice {
-    let start = Dice::new(seed.wrapping_add(run.wrapping_mul(0xD6E8_FEB8_6659_FD93))).long();
-    Dice::new(start)
-}
-
 /// Cuts the budget of a run that would cost too much. The few that keep a long
 /// one spend it whole.
 fn cut(call: &mut Call, long_runs: &mut u32) {
@@ -42,7 +36,7 @@ pub fn compare(seed: u64, runs: u64) -> Seen {
     let mut seen = Seen::new();
     let mut long_runs = 0;
     for run in 0..runs {
-        let mut call = scene(&mut dice_of(seed, run), &pool);
+        let mut call = scene(&mut Dice::of(seed, run), &pool);
         assert!(keeps_rules(&call.image, call.paper.len(), call.journal.len()));
         cut(&mut call, &mut long_runs);
         let expected = call.by_reference(call.budget);

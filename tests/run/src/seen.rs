@@ -8,7 +8,7 @@ use crate::corners::STEPS;
 use crate::look::{translation, user_mode};
 use crate::printed::Printed;
 use crate::sight::{see, Sight};
-use reference::{decode, Memory};
+use reference::decode;
 
 /// Of a long run only the start is looked at again.
 const MOST_STEPS: u64 = 1_000;
@@ -79,12 +79,7 @@ impl Seen {
     fn look(&mut self, call: &Call, steps: u64) {
         let mut machine = decode(&call.image);
         let (mut ram, mut paper) = (call.ram.clone(), call.paper.clone());
-        let mut memory = Memory {
-            execution_rom: &call.execution,
-            bootstrap_rom: &call.bootstrap,
-            ram: &mut ram,
-            paper: &mut paper,
-        };
+        let mut memory = call.memory(&mut ram, &mut paper);
         for _ in 0..steps {
             see(&mut machine, &mut memory, |sight| self.step(sight));
         }

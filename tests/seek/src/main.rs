@@ -3,6 +3,8 @@
 //!
 //! `seek [SEED [HISTORIES]]`. Exit 0: all equal and all counts met; 1: not so.
 
+#[path = "../../common/arguments.rs"]
+mod arguments;
 #[allow(dead_code)]
 #[path = "../../../reference/tests/common/asm.rs"]
 mod asm;
@@ -20,25 +22,13 @@ mod program;
 use dice::Dice;
 use history::History;
 use met::Met;
-use std::env;
 use std::panic::{catch_unwind, AssertUnwindSafe};
 use std::process::exit;
 
-const DEFAULT_SEED: u64 = 1;
 const DEFAULT_HISTORIES: u64 = 50_000;
 
 /// Five numbers of slots by name; the sixth is any other up to 80.
 const SLOTS: [usize; 5] = [0, 1, 2, 3, 17];
-
-fn argument(place: usize, name: &str, otherwise: u64) -> u64 {
-    match env::args().nth(place) {
-        None => otherwise,
-        Some(text) => text.parse().unwrap_or_else(|_| {
-            eprintln!("seek: the {name} is a number, not {text:?}");
-            exit(2)
-        }),
-    }
-}
 
 fn live(dice: &mut Dice, met: &mut Met) {
     let choice = dice.below(6) as usize;
@@ -59,8 +49,8 @@ fn live(dice: &mut Dice, met: &mut Met) {
 }
 
 fn main() {
-    let seed = argument(1, "seed", DEFAULT_SEED);
-    let histories = argument(2, "number of histories", DEFAULT_HISTORIES);
+    let seed = arguments::seed();
+    let histories = arguments::amount("number of histories", DEFAULT_HISTORIES);
     println!("seek: seed {seed}, {histories} histories");
     let dice = &mut Dice::new(seed);
     let met = &mut Met::default();

@@ -1,0 +1,33 @@
+//! The archive's calls, or, while a fault is set, a run that is wrong on purpose
+//! in the place of the archive's, with the reference's take-back.
+
+use crate::archive;
+pub use crate::archive::reset;
+use crate::faults::Fault;
+use crate::lent::Lent;
+use crate::wrong::Wrong;
+use std::cell::Cell;
+
+thread_local! {
+    static FAULT: Cell<Option<Fault>> = Cell::new(None);
+}
+
+pub fn set_fault(fault: Option<Fault>) {
+    FAULT.with(|now| now.set(fault));
+}
+
+pub fn run(lent: &mut Lent, budget: u64, stop: u64) -> u64 {
+    match FAULT.with(Cell::get) {
+        None => archive::run(lent, budget, stop),
+        Some(fault) => Wrong::new(lent).run(fault, budget, stop).packed(),
+    }
+}
+
+pub fn take_back(lent: &mut Lent, steps: u64) -> u64 {
+    if FAULT.with(Cell::get).is_none() {
+        return archive::take_back(lent, steps);
+    }
+    let Lent { image, ram, paper, journal, .. } = lent;
+    let (image, ram, paper) = (image.content_mut(), ram.content_mut(), paper.content_mut());
+    reference::take_back(image, ram, paper, journal.content(), steps).packed()
+}
