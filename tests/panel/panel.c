@@ -8,11 +8,44 @@
 
 static char line[STATION_LINE_BYTES + 2];
 
+/* Two entries of the translation table for one page, one for the next, and a
+   load from the next page and one from the first. */
+static struct lent doubled_rom(void)
+{
+    static const uint32_t words[] = {
+        0x3C088000, /* lui   t0, 0x8000 */
+        0x40885000, /* mtc0  t0, EntryHi */
+        0x3C092000, /* lui   t1, 0x2000 */
+        0x35290600, /* ori   t1, t1, 0x600: D, V */
+        0x40891000, /* mtc0  t1, EntryLo */
+        0x42000002, /* tlbwi: entry 0 */
+        0x340A0300, /* ori   t2, zero, 0x300 */
+        0x408A0000, /* mtc0  t2, Index */
+        0x42000002, /* tlbwi: entry 3 */
+        0x35081000, /* ori   t0, t0, 0x1000 */
+        0x40885000, /* mtc0  t0, EntryHi */
+        0x340A0500, /* ori   t2, zero, 0x500 */
+        0x408A0000, /* mtc0  t2, Index */
+        0x42000002, /* tlbwi: entry 5 */
+        0x400B6000, /* mfc0  t3, Status */
+        0x3C0C0100, /* lui   t4, 0x100: VMc */
+        0x016C5825, /* or    t3, t3, t4 */
+        0x408B6000, /* mtc0  t3, Status */
+        0x8D0D0000, /* lw    t5, 0(t0) */
+        0x8D0EFFFC, /* lw    t6, -4(t0) */
+    };
+    return code(words, sizeof words / sizeof words[0], sizeof words);
+}
+
 /* The files that a script may name; 0 for one that is not there. */
 static int file_named(const char *name, struct lent *file)
 {
     if (strcmp(name, "boot.rom") == 0) {
         *file = boot_rom();
+        return 1;
+    }
+    if (strcmp(name, "doubled.rom") == 0) {
+        *file = doubled_rom();
         return 1;
     }
     if (strcmp(name, "exec.rom") == 0) {

@@ -106,6 +106,19 @@ static void leave(struct station s)
 
 /* What the machine runs after a reset: it stores 25 in 0x20000100 and then 1,
    prints A, and asks the kernel, which goes round at 0x1fc00180. */
+static struct lent code(const uint32_t *words, size_t count, size_t len)
+{
+    struct lent b = lend(len);
+    size_t i;
+    for (i = 0; i < count; i++) {
+        b.bytes[4 * i] = (uint8_t)words[i];
+        b.bytes[4 * i + 1] = (uint8_t)(words[i] >> 8);
+        b.bytes[4 * i + 2] = (uint8_t)(words[i] >> 16);
+        b.bytes[4 * i + 3] = (uint8_t)(words[i] >> 24);
+    }
+    return b;
+}
+
 static struct lent boot_rom(void)
 {
     static const uint32_t words[] = {
@@ -122,14 +135,7 @@ static struct lent boot_rom(void)
         0xAD4C0004, /* sw    t4, 4(t2): COMMAND, PRINTCHR */
         0x0000000C, /* syscall */
     };
-    struct lent b = lend(0x188);
-    size_t i;
-    for (i = 0; i < sizeof words / sizeof words[0]; i++) {
-        b.bytes[4 * i] = (uint8_t)words[i];
-        b.bytes[4 * i + 1] = (uint8_t)(words[i] >> 8);
-        b.bytes[4 * i + 2] = (uint8_t)(words[i] >> 16);
-        b.bytes[4 * i + 3] = (uint8_t)(words[i] >> 24);
-    }
+    struct lent b = code(words, sizeof words / sizeof words[0], 0x188);
     memcpy(b.bytes + 0x180, "\x60\x00\xf0\x0b", 4); /* j 0x1fc00180 */
     return b;
 }

@@ -25,6 +25,19 @@ pub fn through_table(image: &[u8], access: Access, sizes: Sizes, address: u32) -
     reach::landed(access, sizes, to)
 }
 
+// Whether two entries of the table match, so that a run stops before the access.
+pub fn meets_two(image: &[u8], access: Access, address: u32) -> bool {
+    if image.len() != 501 {
+        return false;
+    }
+    let machine = decode(image);
+    let cpu = machine.cpu;
+    let rows = cpu.tlb;
+    let core = cpu.core;
+    let cp0 = core.cp0;
+    reach::meets_two(mode_of(cp0.status), access, address, rows, cp0.entry_hi)
+}
+
 // An address on the bus.
 pub fn on_bus(access: Access, sizes: Sizes, address: u32) -> Reached {
     reach::landed(access, sizes, Translated::To(address))

@@ -1,4 +1,5 @@
 // What the machine would read at an address.
+use crate::address::meets_two;
 use crate::address::on_bus;
 use crate::address::through_table;
 use board::places::Place;
@@ -9,11 +10,12 @@ use reach::access::Access;
 use reach::access::Kind;
 use reach::access::Width;
 
-// The value there, or the exception, or a word of the device area, which info clocks and info printers show.
+// The value there, or the exception, or a word of the device area, which info clocks and info printers show; or two entries of the table match.
 pub enum Read {
     Value(u64),
     Raises(u64),
     Device,
+    TwoMatch,
 }
 
 fn byte_at(bytes: &[u8], at: usize) -> u64 {
@@ -105,8 +107,12 @@ pub fn virtual_unit(
     unit: Unit,
     address: u32,
 ) -> Read {
+    let load = load(unit);
+    if meets_two(image, load, address) {
+        return Read::TwoMatch;
+    }
     let sizes = sizes(execution, bootstrap, ram);
-    let reached = through_table(image, load(unit), sizes, address);
+    let reached = through_table(image, load, sizes, address);
     by_reached(reached, unit, execution, bootstrap, ram)
 }
 
@@ -133,7 +139,6 @@ pub fn instruction(image: &[u8], execution: &[u8], bootstrap: &[u8], ram: &[u8])
     let read = by_reached(reached, Unit::Word, execution, bootstrap, ram);
     match read {
         Read::Value(word) => word,
-        Read::Raises(_) => 0,
-        Read::Device => 0,
+        _ => 0,
     }
 }

@@ -26,6 +26,8 @@ pub const RAISES: u64 = 6;
 
 pub const DEVICE: u64 = 7;
 
+pub const TWO_MATCH: u64 = 8;
+
 // `begins` and `shows` are of the rows above; the line ends behind the unit if `ends` is 1.
 pub struct Unit {
     pub begins: u64,
@@ -49,7 +51,8 @@ pub fn show(out: &mut [u8], at: usize, unit: Unit) -> usize {
         at,
         b" %b| %h| %w| %i| %d| %k|\
         \x20no access: exception %d %e\n|\
-        \x20the device area. See info clocks, info printers.\n",
+        \x20the device area. See info clocks, info printers.\n|\
+        \x20two entries of the translation table match. See info tlb.\n",
         unit.shows,
         value,
     );

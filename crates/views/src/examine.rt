@@ -132,6 +132,7 @@ fn shown(s: Looked, look: Look, read: Read) -> screen::memory::Unit {
         Read::Value(value) => valued(s, look, value),
         Read::Raises(code) => told(s, screen::memory::RAISES, code),
         Read::Device => told(s, screen::memory::DEVICE, 0),
+        Read::TwoMatch => told(s, screen::memory::TWO_MATCH, 0),
     }
 }
 
