@@ -6,10 +6,11 @@ use crate::culprit::Word;
 use crate::culprit::seen;
 use crate::culprit::sought;
 use crate::culprit::word_of_ram;
-use calls::Called;
-use calls::refused;
+use answer::Answer;
+use answer::packed;
+use backward::take_back;
+use forward::run;
 use inquiry::reading::word_at;
-use message::blame::Culprit;
 use seek::Sought;
 use session::work::Asked;
 use session::work::Worked;
@@ -20,11 +21,9 @@ fn unchanged(image: &[u8], ram: &[u8], place: u32) -> Worked {
     Worked::NoChange(place as u64 + 0x2000_0000, holds, on_hand)
 }
 
-fn found(answer: Called, culprit: Culprit) -> Worked {
-    match answer {
-        Called::Done(_, _) => Worked::Found(culprit),
-        Called::Refused(number) => Worked::Refused(number),
-    }
+// Document 01's number; 0 where nothing is refused.
+fn refused(answer: Answer) -> u64 {
+    packed(answer) % 0x100
 }
 
 // The machine is stood just before the step. Unless it stays there it goes forward again by as many steps, which leaves everything as it was (demand 3).
@@ -38,7 +37,7 @@ fn stand(
     step: Step,
 ) -> Worked {
     let ago = step.ago as u64;
-    let number = refused(calls::take_back(image, ram, paper, journal, ago));
+    let number = refused(take_back(image, ram, paper, journal, ago));
     if number != 0 {
         return Worked::Refused(number);
     }
@@ -46,38 +45,24 @@ fn stand(
     if step.stay {
         return Worked::Stood(culprit);
     }
-    let answer = calls::run(image, execution, bootstrap, ram, paper, journal, ago, 0);
-    found(answer, culprit)
-}
-
-// Whether there is such a word at all.
-pub fn placed(asked: Asked, ram: usize) -> Worked {
-    let word = word_of_ram(asked.address, ram);
-    match word {
-        Word::At(_) => Worked::Nothing,
-        Word::Nowhere => Worked::NoWord(ram as u64),
+    let number = refused(run(image, execution, bootstrap, ram, paper, journal, ago, 0));
+    if number != 0 {
+        return Worked::Refused(number);
     }
-}
-
-fn place_of(asked: Asked, ram: usize) -> u32 {
-    let word = word_of_ram(asked.address, ram);
-    match word {
-        Word::At(place) => place,
-        Word::Nowhere => 0,
-    }
+    Worked::Found(culprit)
 }
 
 // The step that the journal names.
-pub fn search(
+fn search(
     image: &mut [u8],
     execution: &[u8],
     bootstrap: &[u8],
     ram: &mut [u8],
     paper: &mut [u8],
     journal: &mut [u8],
-    asked: Asked,
+    place: u32,
+    stay: bool,
 ) -> Worked {
-    let place = place_of(asked, ram.len());
     let answer = sought(image, ram, journal, place);
     let Sought::At(ago, old, new) = answer else {
         return unchanged(image, ram, place);
@@ -87,7 +72,38 @@ pub fn search(
         ago,
         old,
         new,
-        stay: asked.stay,
+        stay,
     };
     stand(image, execution, bootstrap, ram, paper, journal, step)
+}
+
+// A run of no steps judges the machine before it is searched.
+pub fn blame(
+    image: &mut [u8],
+    execution: &[u8],
+    bootstrap: &[u8],
+    ram: &mut [u8],
+    paper: &mut [u8],
+    journal: &mut [u8],
+    asked: Asked,
+) -> Worked {
+    let word = word_of_ram(asked.address, ram.len());
+    let Word::At(place) = word else {
+        return Worked::NoWord(ram.len() as u64);
+    };
+    let number = refused(run(image, execution, bootstrap, ram, paper, journal, 0, 0));
+    if number != 0 {
+        return Worked::Refused(number);
+    }
+    let stay = asked.stay;
+    search(
+        image,
+        execution,
+        bootstrap,
+        ram,
+        paper,
+        journal,
+        place,
+        stay,
+    )
 }

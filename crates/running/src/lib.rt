@@ -1,13 +1,15 @@
-// run, stepi: some steps, until an exception or two matches stop them. A run of no steps judges the machine, before new, blame and before.
-use blame::placed;
-use blame::search;
-use calls::Called;
-use calls::Ended;
-use calls::refused;
-use session::work::Asked;
+// run, stepi: some steps, until an exception or two matches stop them. new: a reset, and a run of no steps that judges what was made.
+use answer::Answer;
+use answer::Reason;
+use answer::packed;
 use session::work::Settings;
 use session::work::Work;
 use session::work::Worked;
+
+// Document 01's number; 0 where nothing is refused.
+pub fn refused(answer: Answer) -> u64 {
+    packed(answer) % 0x100
+}
 
 fn budget(work: Work) -> u64 {
     match work {
@@ -23,37 +25,15 @@ fn stop(work: Work) -> u64 {
     }
 }
 
-fn asked(work: Work) -> Asked {
-    match work {
-        Work::Blame(asked) => asked,
-        _ => Asked {
-            address: 0,
-            stay: false,
-        },
-    }
+fn was_reset(image: &mut [u8], s: Settings) -> u64 {
+    refused(reset::reset(image, s.scale, s.delay, s.installed))
 }
 
-fn is_nothing(worked: Worked) -> bool {
-    match worked {
-        Worked::Nothing => true,
-        _ => false,
-    }
-}
-
-fn was_reset(image: &mut [u8], s: Settings) -> Worked {
-    let number = refused(calls::reset(image, s.scale, s.delay, s.installed));
-    if number != 0 {
-        return Worked::Refused(number);
-    }
-    Worked::Nothing
-}
-
-// What comes before the run.
-fn prepared(image: &mut [u8], work: Work, ram: usize) -> Worked {
+// What comes before the run: the number that it is refused with, or 0.
+fn prepared(image: &mut [u8], work: Work) -> u64 {
     match work {
         Work::Make(settings) => was_reset(image, settings),
-        Work::Blame(asked) => placed(asked, ram),
-        _ => Worked::Nothing,
+        _ => 0,
     }
 }
 
@@ -63,42 +43,44 @@ fn excepted(image: &[u8], steps: u64) -> Worked {
     Worked::Excepted(steps, code, place)
 }
 
-fn ran(image: &[u8], steps: u64, why: Ended) -> Worked {
-    match why {
-        Ended::Budget => Worked::Ran(steps),
-        Ended::Exception => excepted(image, steps),
-        Ended::TwoMatches => Worked::TwoMatches(steps),
+fn ran(image: &[u8], steps: u64, reason: Reason) -> Worked {
+    match reason {
+        Reason::Exception => excepted(image, steps),
+        Reason::TwoMatches => Worked::TwoMatches(steps),
+        _ => Worked::Ran(steps),
     }
 }
 
-fn done(image: &[u8], work: Work, steps: u64, why: Ended) -> Worked {
+fn done(image: &[u8], work: Work, steps: u64, reason: Reason) -> Worked {
     match work {
-        Work::Run(_, _) => ran(image, steps, why),
         Work::Make(_) => Worked::Made,
-        _ => Worked::Nothing,
+        _ => ran(image, steps, reason),
     }
 }
 
-fn told(image: &[u8], work: Work, answer: Called) -> Worked {
+fn told(image: &[u8], work: Work, answer: Answer) -> Worked {
     match answer {
-        Called::Done(steps, why) => done(image, work, steps, why),
-        Called::Refused(number) => Worked::Refused(number),
+        Answer::Done(steps, reason) => done(image, work, steps as u64, reason),
+        Answer::Refused(_) => Worked::Refused(refused(answer)),
     }
 }
 
-// A machine that is sound is searched for the word that `blame` or `before` asks for.
-fn goes_on(
-    work: Work,
+pub fn run(
     image: &mut [u8],
     execution: &[u8],
     bootstrap: &[u8],
     ram: &mut [u8],
     paper: &mut [u8],
     journal: &mut [u8],
+    work: Work,
 ) -> Worked {
+    let number = prepared(image, work);
+    if number != 0 {
+        return Worked::Refused(number);
+    }
     let budget = budget(work);
     let stop = stop(work);
-    let answer = calls::run(
+    let answer = forward::run(
         image,
         execution,
         bootstrap,
@@ -108,26 +90,5 @@ fn goes_on(
         budget,
         stop,
     );
-    let worked = told(image, work, answer);
-    if !is_nothing(worked) {
-        return worked;
-    }
-    let asked = asked(work);
-    search(image, execution, bootstrap, ram, paper, journal, asked)
-}
-
-pub fn runs(
-    work: Work,
-    image: &mut [u8],
-    execution: &[u8],
-    bootstrap: &[u8],
-    ram: &mut [u8],
-    paper: &mut [u8],
-    journal: &mut [u8],
-) -> Worked {
-    let before = prepared(image, work, ram.len());
-    if !is_nothing(before) {
-        return before;
-    }
-    goes_on(work, image, execution, bootstrap, ram, paper, journal)
+    told(image, work, answer)
 }

@@ -1,12 +1,12 @@
 // new: whether a station can be made, before its files are there.
-use calls::refused;
 use forms::kinds::Fresh;
+use running::refused;
 use session::work::Worked;
 
 // What reset says of the three parameters.
 fn ranges(scale: u64, delay: u64, installed: u64) -> u64 {
     let mut scratch = [0u8; 501];
-    refused(calls::reset(&mut scratch, scale, delay, installed))
+    refused(reset::reset(&mut scratch, scale, delay, installed))
 }
 
 // Rows 1, 3, 4 and 6 of document 01's numbers; 0 where nothing is refused.

@@ -5,7 +5,8 @@ mod taken_back; // back, reverse-stepi
 
 use crate::judge::judged;
 use crate::taken_back::back;
-use running::runs;
+use blame::blame;
+use running::run;
 use session::work::Work;
 use session::work::Worked;
 
@@ -24,6 +25,7 @@ pub fn perform(
         Work::Judge(fresh) => judged(fresh),
         Work::Load(address) => load::load(file, image, ram, address),
         Work::Back(steps) => back(image, ram, paper, journal, steps),
-        _ => runs(work, image, execution, bootstrap, ram, paper, journal),
+        Work::Blame(asked) => blame(image, execution, bootstrap, ram, paper, journal, asked),
+        _ => run(image, execution, bootstrap, ram, paper, journal, work),
     }
 }

@@ -1,11 +1,12 @@
 // back, reverse-stepi: some of the newest steps are taken back.
-use calls::Called;
+use answer::Answer;
+use running::refused;
 use session::work::Worked;
 
-fn told(answer: Called) -> Worked {
+fn told(answer: Answer) -> Worked {
     match answer {
-        Called::Done(steps, _) => Worked::TakenBack(steps),
-        Called::Refused(number) => Worked::Refused(number),
+        Answer::Done(steps, _) => Worked::TakenBack(steps as u64),
+        Answer::Refused(_) => Worked::Refused(refused(answer)),
     }
 }
 
@@ -16,5 +17,5 @@ pub fn back(
     journal: &[u8],
     steps: u64,
 ) -> Worked {
-    told(calls::take_back(image, ram, paper, journal, steps))
+    told(backward::take_back(image, ram, paper, journal, steps))
 }
