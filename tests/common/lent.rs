@@ -11,7 +11,28 @@ pub struct Lent {
     pub journal: Guarded,
 }
 
+/// As a call is given them.
+pub struct Slices<'a> {
+    pub image: &'a mut [u8],
+    pub execution: &'a [u8],
+    pub bootstrap: &'a [u8],
+    pub ram: &'a mut [u8],
+    pub paper: &'a mut [u8],
+    pub journal: &'a mut [u8],
+}
+
 impl Lent {
+    pub fn slices(&mut self) -> Slices {
+        Slices {
+            image: self.image.content_mut(),
+            execution: self.execution.content(),
+            bootstrap: self.bootstrap.content(),
+            ram: self.ram.content_mut(),
+            paper: self.paper.content_mut(),
+            journal: self.journal.content_mut(),
+        }
+    }
+
     /// What is wrong after a call, which may write all but the ROMs; or None.
     pub fn wrong(&self) -> Option<String> {
         let found = [

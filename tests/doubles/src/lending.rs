@@ -4,8 +4,7 @@
 use crate::archive;
 pub use crate::archive::reset;
 use crate::faults::Fault;
-use crate::lent::Lent;
-use crate::wrong::Wrong;
+use crate::lent::{Lent, Slices};
 use std::cell::Cell;
 
 thread_local! {
@@ -19,7 +18,7 @@ pub fn set_fault(fault: Option<Fault>) {
 pub fn run(lent: &mut Lent, budget: u64, stop: u64) -> u64 {
     match FAULT.with(Cell::get) {
         None => archive::run(lent, budget, stop),
-        Some(fault) => Wrong::new(lent).run(fault, budget, stop).packed(),
+        Some(fault) => lent.slices().run(fault, budget, stop).packed(),
     }
 }
 
@@ -27,7 +26,6 @@ pub fn take_back(lent: &mut Lent, steps: u64) -> u64 {
     if FAULT.with(Cell::get).is_none() {
         return archive::take_back(lent, steps);
     }
-    let Lent { image, ram, paper, journal, .. } = lent;
-    let (image, ram, paper) = (image.content_mut(), ram.content_mut(), paper.content_mut());
-    reference::take_back(image, ram, paper, journal.content(), steps).packed()
+    let Slices { image, ram, paper, journal, .. } = lent.slices();
+    reference::take_back(image, ram, paper, journal, steps).packed()
 }

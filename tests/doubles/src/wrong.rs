@@ -1,33 +1,13 @@
 //! A run that is wrong on purpose: the reference step by step, with one fault.
 
 use crate::faults::Fault::{self, *};
-use crate::lent::Lent;
+use crate::lent::Slices;
 use crate::look::look;
 use crate::wrong_halts::halts;
 use reference::{decode, encode, step, Answer, Machine, Memory, NoRecord};
 use reference::{BUDGET_SPENT, EXCEPTION, TWO_MATCHES};
 
-pub struct Wrong<'a> {
-    image: &'a mut [u8],
-    execution: &'a [u8],
-    bootstrap: &'a [u8],
-    ram: &'a mut [u8],
-    paper: &'a mut [u8],
-    journal: &'a mut [u8],
-}
-
-impl Wrong<'_> {
-    pub fn new(lent: &mut Lent) -> Wrong {
-        Wrong {
-            image: lent.image.content_mut(),
-            execution: lent.execution.content(),
-            bootstrap: lent.bootstrap.content(),
-            ram: lent.ram.content_mut(),
-            paper: lent.paper.content_mut(),
-            journal: lent.journal.content_mut(),
-        }
-    }
-
+impl Slices<'_> {
     fn machine(&self) -> Machine {
         decode(self.image)
     }
@@ -49,7 +29,7 @@ impl Wrong<'_> {
 
     /// One step, also where a run would stop before it; then without a record.
     fn step(&mut self, stop: u64) -> u8 {
-        let Wrong { image, execution, bootstrap, ram, paper, journal } = self;
+        let Slices { image, execution, bootstrap, ram, paper, journal } = self;
         let answer =
             reference::run_with_records(image, execution, bootstrap, ram, paper, journal, 1, stop);
         if answer.reason != TWO_MATCHES {
