@@ -8,9 +8,11 @@ use state::decode::decode;
 
 const ADEL: u32 = 4;
 
+const IMAGE_BYTES: usize = 501;
+
 // An address that the machine itself would use: through privilege and table.
 pub fn through_table(image: &[u8], access: Access, sizes: Sizes, address: u32) -> Reached {
-    if image.len() != 501 {
+    if image.len() != IMAGE_BYTES {
         return Reached::Exception {
             miss: false,
             code: ADEL,
@@ -27,7 +29,7 @@ pub fn through_table(image: &[u8], access: Access, sizes: Sizes, address: u32) -
 
 // Whether two entries of the table match, so that a run stops before the access.
 pub fn meets_two(image: &[u8], access: Access, address: u32) -> bool {
-    if image.len() != 501 {
+    if image.len() != IMAGE_BYTES {
         return false;
     }
     let machine = decode(image);
