@@ -6,4 +6,3 @@ pub mod Laws
 pub mod Parts
 pub mod PlainFetch
 pub mod Fetches
-pub mod Quiet

@@ -1,7 +1,6 @@
 // What one step does, decided from the state after the tick and written nowhere.
 pub mod effect; // what a step changes
-mod fetch; // the word at PC
-pub mod look; // whether a step meets two matches
+pub mod fetch; // the word at PC
 pub mod lent; // the word around a place of the lent bytes
 mod part; // bytes and halves of a word
 mod settle; // an intent to its decision

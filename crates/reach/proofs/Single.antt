@@ -1,6 +1,6 @@
 -- In a table that is not doubled no access meets two matches: what is translated lies at 0x20000000 or above, and there no address has two.
 use mathlib.Core.Path.{_≡_, refl, ap, _∙_}
-use mathlib.Core.Bool.{Bool, true, false, _&&_}
+use mathlib.Core.Bool.{Bool, true, false, _&&_, and-false}
 use mathlib.Core.List.{List}
 use Prim.Native.Nat.{ℕ, _+_, _*_, _/_, _%_, _^_, _≤_}
 use native.Mathlib.Omega.{arith}
@@ -16,10 +16,6 @@ use Rattle.reach.specs.Check.{alignedOf, allowedOf}
 use Rattle.reach.specs.Translate.{soughtOf, isVirtual}
 use Rattle.reach.specs.Reach.{meetsTwo}
 use Rattle.reach.specs.declared.access.Access.{Access}
-
-and-false : (b : Bool) → (b && false) ≡ false
-and-false true = refl
-and-false false = refl
 
 module _ (mode : Mode) (access : Access) (a : ℕ) (t : List Row) (entry : ℕ) (not-doubled : doubledIn t ≡ false) where
   high : 0x20000000 ≤ a → 0x20000000 ≤ soughtOf a entry

@@ -13,8 +13,8 @@ use Rattle.ring.proofs.Run.{Reached, reached-halts, reached-spent}
 use Rattle.tlb.specs.Doubled.{doubledIn}
 use Rattle.tlb.specs.declared.Row.{Row}
 use Rattle.state.specs.declared.machine.Settings.{Settings}
-use Rattle.decide.specs.Look.{meetsTwoOf}
-use Rattle.decide.proofs.Quiet.{meets-one}
+use Rattle.meets.specs.Meets.{meetsTwoOf}
+use Rattle.meets.proofs.Quiet.{meets-one}
 use Rattle.held.specs.Core.{coreIn}
 use Rattle.step.specs.Parts.{aheadOf}
 use Rattle.step.specs.Step.{haltsOf}
@@ -26,9 +26,9 @@ use Rattle.turn.specs.Buffers.{Beside, romsIn}
 use Rattle.turn.specs.Turn.{lentFrom, worldHeld}
 use Rattle.turn.specs.declared.Parts.{Parts}
 use Rattle.run.specs.Run.{reasonOf}
-use Rattle.run.specs.Look.{lookOf}
-use Rattle.run.specs.declared.Stop.the-variants.{Budget, TwoMatches}
-use Rattle.run.specs.declared.look.Look.{Look}
+use Rattle.look.specs.Look.{lookOf}
+use Rattle.look.specs.declared.Stop.the-variants.{Budget, TwoMatches}
+use Rattle.look.specs.declared.Look.{Look}
 
 -- what the loop asks is what the definition says
 pub halts-ahead : (p : Parts) (settings : Settings) (b : Beside) →

@@ -37,10 +37,6 @@ still-whole long w =
       ram = record { whole = rw long (w .ram .whole); few = rw long (w .ram .few) };
     }
 
-pub and-false : (b : Bool) → (b && false) ≡ false
-and-false true = refl
-and-false false = refl
-
 -- a record is as long as a slot
 note-long : (roms : Roms) (w : World) → length (w .board .line .printers) ≡ 8 → length (recordBytes (noteOf roms w)) ≡ 256
 unfolding noteOf

@@ -16,8 +16,8 @@ use Rattle.step.specs.Step.{raisesOf, haltsOf, stepOf}
 use Rattle.step.specs.Note.{noteOf}
 use Rattle.turn.specs.Buffers.{Beside, romsIn}
 use Rattle.turn.specs.Turn.{lentFrom}
-use Rattle.run.specs.declared.Stop.{Stop}
-use Rattle.run.specs.declared.Stop.the-variants.{Budget, Exception, TwoMatches}
+use Rattle.look.specs.declared.Stop.{Stop}
+use Rattle.look.specs.declared.Stop.the-variants.{Budget, Exception, TwoMatches}
 use Rattle.run.specs.declared.Outcome.{Outcome}
 
 abbrev pub forward : Roms → Forward

@@ -4,14 +4,15 @@ ghost use mathlib.Core.Path.{_≡_};
 ghost use Rattle.turn.specs.Buffers.{besideOf};
 ghost use Rattle.run.specs.Run.{Fits, RunIs};
 ghost use Rattle.run.specs.Spin.{partsOf, machineOf, Ready, SpinIs};
-use crate::look::looked;
-use crate::look::next_look;
 use decide::effect::Effect;
 use decide::step::decide;
 use held::Held;
 use held::core::core_in;
 use held::packed;
 use held::unpacked;
+use look::Stop;
+use look::looked;
+use look::next_look;
 use printer::Line;
 use printer::tick::any_busy;
 use state::encode::core_words;
@@ -23,15 +24,6 @@ use step::saved::old_row;
 use turn::Parts;
 use turn::finish;
 use turn::start;
-
-mod look; // whether a run goes on
-
-// Why a run ended.
-pub enum Stop {
-    Budget,
-    Exception,
-    TwoMatches,
-}
 
 pub struct Outcome {
     pub machine: Machine,

@@ -1,7 +1,7 @@
 -- ONE STEP, as document 01 has it: the tick, then interrupt entry or an instruction, decided from what the tick left, and its effect.
 use mathlib.Core.Bool.{Bool, true, false}
 use Rattle.decide.specs.Decide.{decideOf}
-use Rattle.decide.specs.Look.{meetsTwoOf}
+use Rattle.meets.specs.Meets.{meetsTwoOf}
 use Rattle.decide.specs.Lent.{sizesOf}
 use Rattle.decide.specs.declared.effect.Effect.{Effect}
 use Rattle.decide.specs.declared.effect.Effect.the-variants.{Nothing, Register, HiLo, Control, Entry, TlbRow, Ram, DeviceLoad, DeviceStore, Raise}

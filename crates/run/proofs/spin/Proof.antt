@@ -2,7 +2,7 @@
 -- The arms differ in what they know of the effect; `again` and `ends` take each of them from the turn's statement.
 use Prim.Native.Nat.{ℕ, _≤_, _<_, _+_, _-_}
 use mathlib.Core.Path.{_≡_, _∙_, refl, sym, ap}
-use mathlib.Core.Bool.{Bool, true, false, _&&_}
+use mathlib.Core.Bool.{Bool, true, false, _&&_, and-false}
 use mathlib.Core.List.{List}
 use native.Mathlib.Omega.{arith}
 use lib.ListN.{length}
@@ -23,8 +23,8 @@ use Rattle.held.proofs.Board.{length-printers}
 use Rattle.step.specs.World.{Roms, romsOf}
 use Rattle.step.specs.Parts.{aheadOf, rowsAfter}
 use Rattle.step.specs.Step.{haltsOf, enters}
-use Rattle.decide.specs.Look.{meetsTwoOf}
-use Rattle.decide.proofs.Quiet.{meets-one}
+use Rattle.meets.specs.Meets.{meetsTwoOf}
+use Rattle.meets.proofs.Quiet.{meets-one}
 use Rattle.turn.specs.Buffers.{Beside, besideOf, romsIn}
 use Rattle.turn.specs.Turn.{lentFrom, worldHeld, TurnIs}
 use Rattle.turn.specs.declared.Parts.{Parts}
@@ -197,7 +197,7 @@ module _ (c : After) where
         )
 
     onward : enters e ≡ false → Onward
-    onward quiet = again (rw quiet (turns.and-false (a .args .stop)))
+    onward quiet = again (rw quiet (and-false (a .args .stop)))
 
     ends : (a .args .stop && enters e) ≡ true → ring.run (forward roms) (slotsOf (a .args .journal .now)) (a .args .budget) (a .args .stop) from ≡ ended there (h .loop .steps + 1) excepted
     ends q = turns.ends _ _ (a .args .stop) turn-is same told rows left-rows from (h .loop .steps) (left-of c) (h .loop .inv .8) (once-at c) q
