@@ -42,7 +42,7 @@ extern "C" {
 #endif
 
 /* Goes up by one with every change of this header that a caller can see. */
-#define LAVUSHMIR_VERSION 3
+#define LAVUSHMIR_VERSION 4
 
 /* Limits. A length that breaks one of them is refused. */
 #define LAVUSHMIR_FRAME_BYTES 4096      /* RAM is made of whole frames */
@@ -65,11 +65,14 @@ extern "C" {
 
 /*
  * The state image: a length word (the bytes behind it), a version byte, then
- * 124 words, all big-endian. docs/MACHINE.md lists the rules that it keeps.
+ * 126 words, all big-endian. docs/MACHINE.md lists the rules that it keeps.
  */
-#define LAVUSHMIR_IMAGE_BYTES 501
-#define LAVUSHMIR_IMAGE_VERSION 1
-#define LAVUSHMIR_IMAGE_WORDS 124
+#define LAVUSHMIR_IMAGE_BYTES 509
+#define LAVUSHMIR_IMAGE_VERSION 2
+#define LAVUSHMIR_IMAGE_WORDS 126
+
+/* An image of version 1, which lavushmir_convert takes and no other call. */
+#define LAVUSHMIR_OLD_IMAGE_BYTES 501
 
 /* The places of the image's words, for lavushmir_image_word. */
 enum {
@@ -97,10 +100,12 @@ enum {
                                     COMMAND, DATA0, ticks left, paper count */
     LAVUSHMIR_WORD_PENDING = 121,
     LAVUSHMIR_WORD_ON_HAND = 122,
-    LAVUSHMIR_WORD_NEXT_SLOT = 123
+    LAVUSHMIR_WORD_NEXT_SLOT = 123, /* the journal's, no branch's */
+    LAVUSHMIR_WORD_SLOT_FLAG = 124, /* 1: the next step is a branch's slot */
+    LAVUSHMIR_WORD_BRANCH = 125 /* the address of that branch; 0 without one */
 };
 
-/* Word `place` (0 to 123) of an image of LAVUSHMIR_IMAGE_BYTES bytes. */
+/* Word `place` (0 to 125) of an image of LAVUSHMIR_IMAGE_BYTES bytes. */
 static inline uint32_t lavushmir_image_word(const uint8_t *image, unsigned place)
 {
     const uint8_t *at = image + 5 + (size_t)4 * place;
@@ -119,7 +124,9 @@ enum {
     LAVUSHMIR_BAD_PAPER = 3,
     /* journal is over 16,777,216 bytes or not a multiple of 256 (0 is allowed) */
     LAVUSHMIR_BAD_JOURNAL = 4,
-    /* image is not 501 bytes, or (not for reset) breaks a rule of the image */
+    /* image is not 509 bytes, or (not for reset) breaks a rule of the image;
+       convert: the old image is not 501 bytes or breaks a rule of version 1, or
+       image is not 509 bytes */
     LAVUSHMIR_BAD_IMAGE = 5,
     /* reset: time scale not 1 to 255, printer delay not 1 to 65,535, installed
        map over 255; run: budget over 1,000,000 */
@@ -135,7 +142,7 @@ enum {
 
 /* The reason in an answer: why a run stopped. */
 enum {
-    /* refused, or a call that does not run: reset and take-back */
+    /* refused, or a call that does not run: reset, take-back and convert */
     LAVUSHMIR_NO_REASON = 0,
     /* the budget is spent */
     LAVUSHMIR_BUDGET_SPENT = 1,
@@ -156,7 +163,7 @@ static inline const char *lavushmir_text(unsigned number)
     case LAVUSHMIR_BAD_PAPER: return "paper is over 65,536 bytes or not a multiple of 8";
     case LAVUSHMIR_BAD_JOURNAL:
         return "journal is over 16,777,216 bytes or not a multiple of 256";
-    case LAVUSHMIR_BAD_IMAGE: return "image is not 501 bytes, or breaks a rule of the image";
+    case LAVUSHMIR_BAD_IMAGE: return "image is not of its length, or breaks a rule of the image";
     case LAVUSHMIR_BAD_PARAMETER: return "a number is out of its range";
     case LAVUSHMIR_NOT_ON_HAND: return "more steps are asked for than are on hand";
     case LAVUSHMIR_BAD_RECORD: return "a record of the journal is not well formed";
@@ -207,14 +214,14 @@ static inline uint32_t lavushmir_steps(uint64_t answer)
  * installed      0 to 255, bit n on where printer n is installed.
  *
  * Answers, the first that applies:
- *   LAVUSHMIR_BAD_IMAGE      image_bytes is not 501. Reset looks at the length
+ *   LAVUSHMIR_BAD_IMAGE      image_bytes is not 509. Reset looks at the length
  *                            only, never at what the image holds.
  *   LAVUSHMIR_BAD_PARAMETER  one of the three parameters is out of its range.
- *   LAVUSHMIR_DONE           all 501 bytes have been written.
+ *   LAVUSHMIR_DONE           all 509 bytes have been written.
  * Each comes with 0 steps and LAVUSHMIR_NO_REASON, so that the whole answer is
  * equal to its number. A refusal leaves every byte of the image as it was.
  *
- * The image then holds 0 everywhere but for: length word 497, version 1,
+ * The image then holds 0 everywhere but for: length word 505, version 2,
  * PC 0x1FC00000, next PC 0x1FC00004, Status 0x10400000, Random 0x00000F00,
  * timer 0xFFFFFFFF, the three parameters, and STATUS 1 for each installed
  * printer. No step is on hand: what the journal holds can not be taken back.
@@ -247,13 +254,19 @@ uint64_t lavushmir_reset(uint8_t *image, size_t image_bytes, uint64_t time_scale
  *   LAVUSHMIR_BAD_ROM        the length of a ROM is not allowed.
  *   LAVUSHMIR_BAD_PAPER      the length of paper is not allowed.
  *   LAVUSHMIR_BAD_JOURNAL    the length of journal is not allowed.
- *   LAVUSHMIR_BAD_IMAGE      image_bytes is not 501, or the image breaks a rule.
+ *   LAVUSHMIR_BAD_IMAGE      image_bytes is not 509, or the image breaks a rule.
  *   LAVUSHMIR_BAD_PARAMETER  budget is over 1,000,000.
  *   LAVUSHMIR_DONE           with the steps that were really run, and
  *                            LAVUSHMIR_BUDGET_SPENT, LAVUSHMIR_EXCEPTION or
  *                            LAVUSHMIR_TWO_MATCHES. A run that ends with an
  *                            exception in the last step of its budget, and was
  *                            asked to stop there, answers LAVUSHMIR_EXCEPTION.
+ *
+ * Exceptions. A step that enters one leaves in the image's EPC the address to go
+ * back to: that of the instruction, and in the slot of a branch or jump (the step
+ * after it, taken or not) that of the branch, with bit 31 of Cause (BD) on. This
+ * holds for interrupts too. What the next step is, a slot or not, is in the image:
+ * LAVUSHMIR_WORD_SLOT_FLAG and LAVUSHMIR_WORD_BRANCH.
  *
  * Two matches. A run stops before a step whose fetch, load or store meets two
  * entries of the translation table that match, also where no stop was asked for:
@@ -290,7 +303,7 @@ uint64_t lavushmir_run(uint8_t *image, size_t image_bytes,
  *   LAVUSHMIR_BAD_RAM        the length of ram is not allowed.
  *   LAVUSHMIR_BAD_PAPER      the length of paper is not allowed.
  *   LAVUSHMIR_BAD_JOURNAL    the length of journal is not allowed.
- *   LAVUSHMIR_BAD_IMAGE      image_bytes is not 501, or the image breaks a rule.
+ *   LAVUSHMIR_BAD_IMAGE      image_bytes is not 509, or the image breaks a rule.
  *   LAVUSHMIR_NOT_ON_HAND    steps is more than the image has on hand.
  *   LAVUSHMIR_BAD_RECORD     one of the records asked for is not well formed:
  *                            its bytes do not keep the layout of docs/RECORD.md,
@@ -322,6 +335,42 @@ uint64_t lavushmir_take_back(uint8_t *image, size_t image_bytes,
                              uint8_t *paper, size_t paper_bytes,
                              const uint8_t *journal, size_t journal_bytes,
                              uint64_t steps);
+
+/*
+ * Convert: makes an image of this version from one of the version before it, for
+ * a machine that was kept from then. Every other call answers
+ * LAVUSHMIR_BAD_IMAGE for such an image.
+ *
+ * old                  the image of version 1. Only read.
+ * old_bytes            its length, LAVUSHMIR_OLD_IMAGE_BYTES.
+ * image                lent for writing, LAVUSHMIR_IMAGE_BYTES bytes. What it
+ *                      holds before the call does not matter.
+ * image_bytes          the length of that buffer.
+ * paper, journal       those of the machine, as for run: the old image is judged
+ *                      with their lengths. Only read.
+ *
+ * Answers, the first that applies:
+ *   LAVUSHMIR_BAD_PAPER      the length of paper is not allowed.
+ *   LAVUSHMIR_BAD_JOURNAL    the length of journal is not allowed.
+ *   LAVUSHMIR_BAD_IMAGE      old_bytes is not 501, or the old image breaks a rule
+ *                            of version 1, or image_bytes is not 509.
+ *   LAVUSHMIR_DONE           all 509 bytes of image have been written.
+ * Each comes with 0 steps and LAVUSHMIR_NO_REASON, so that the whole answer is
+ * equal to its number. A refusal leaves every byte of the image as it was.
+ *
+ * The image then holds every word of the old one, but for: length word 505,
+ * version 2, steps on hand 0; and behind them slot flag 0 and branch address 0.
+ * No step is on hand: what the journal holds can not be taken back, since its
+ * records are of the version before. Next slot stays as it was.
+ *
+ * An old image does not tell whether its next step is a branch's slot. If it is,
+ * an exception in that one step leaves the address of the slot in EPC, as it did
+ * in the version before.
+ */
+uint64_t lavushmir_convert(const uint8_t *old, size_t old_bytes,
+                           uint8_t *image, size_t image_bytes,
+                           const uint8_t *paper, size_t paper_bytes,
+                           const uint8_t *journal, size_t journal_bytes);
 
 #ifdef __cplusplus
 }

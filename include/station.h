@@ -1,7 +1,8 @@
 /*
  * Station: the session of a technician with one machine, callable from C.
  *
- * For C99 and C++. Link with libstation.a (x86-64).
+ * For C99 and C++. Link with libstation.a (x86-64). The archive also has
+ * lavushmir_convert of lavushmir.h, for a station of the version before.
  *
  * A station is a machine with its six buffers: state image, execution ROM,
  * bootstrap ROM, RAM, paper, journal. What a person types is understood, and
@@ -59,7 +60,7 @@ extern "C" {
 #define STATION_OUT_BYTES 65536
 
 /* The length of the state image. */
-#define STATION_IMAGE_BYTES 501
+#define STATION_IMAGE_BYTES 509
 
 /* Words of the session that both sides know. All others belong to the session:
    the C side neither reads nor writes them. */

@@ -1,4 +1,5 @@
 /* main.c - the program lavushmir: its arguments, and the station they name. */
+#include "convert.h"
 #include "input.h"
 #include "lent.h"
 #include "output.h"
@@ -17,6 +18,7 @@
     "usage: lavushmir STATION              commands from standard input\n"     \
     "       lavushmir STATION COMMAND..    one command\n"                      \
     "       lavushmir --restore STATION    back to the save before a bad one\n" \
+    "       lavushmir --convert STATION    from the version before to this one\n" \
     "       lavushmir --help, lavushmir --version\n"
 
 #define HELP                                                                   \
@@ -28,7 +30,7 @@
     "Exit status: 0 done, 1 refused, 2 usage, 3 trouble with a file,\n"        \
     "4 another program holds the station.\n"
 
-#define VERSION "lavushmir 0.6\n"
+#define VERSION "lavushmir 0.7\n"
 
 /* A file must not get the number of a standard stream that is closed: nothing
  * is read from such a stream, and a write to it fails. */
@@ -37,12 +39,6 @@ static void hold_standard_streams(void)
     for (int fd = STDIN_FILENO; fd <= STDERR_FILENO; fd++)
         if (fcntl(fd, F_GETFD) < 0)
             (void)open("/dev/null", O_RDONLY); /* the lowest free number is this one */
-}
-
-static int show(const char *text)
-{
-    output_write(0, (const uint8_t *)text, strlen(text));
-    return output_failed() ? STATION_EXIT_FILE : STATION_EXIT_DONE;
 }
 
 static int usage(void)
@@ -57,17 +53,19 @@ static int restore(const char *path)
     int r = sf_open(&s, path);
     if (r == SF_OK)
         r = sf_restore(&s, lent.files, FILES);
-    return r == SF_OK ? show("the save before the present one is in force again\n") : r;
+    return r == SF_OK ? output_show("the save before the present one is in force again\n") : r;
 }
 
 static int option(int count, char **words)
 {
     if (count == 1 && strcmp(words[0], "--help") == 0)
-        return show(HELP);
+        return output_show(HELP);
     if (count == 1 && strcmp(words[0], "--version") == 0)
-        return show(VERSION);
+        return output_show(VERSION);
     if (count == 2 && strcmp(words[0], "--restore") == 0)
         return restore(words[1]);
+    if (count == 2 && strcmp(words[0], "--convert") == 0)
+        return convert_station(words[1]);
     return usage();
 }
 
@@ -80,7 +78,9 @@ static int load(station *s)
     if (lstat(s->path, &st) != 0 && errno == ENOENT)
         return SF_OK;
     r = sf_open(&s->files, s->path);
-    return r == SF_OK ? sf_load(&s->files, lent.roms, ROMS, lent.files, FILES) : r;
+    if (r == SF_OK)
+        r = sf_load(&s->files, lent.roms, ROMS, lent.files, FILES);
+    return r == SF_OK && convert_is_due(s->path, &lent) ? SF_TROUBLE : r;
 }
 
 int main(int argc, char **argv)

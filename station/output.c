@@ -3,8 +3,10 @@
 
 #include "io.h"
 #include "say.h"
+#include "station.h"
 
 #include <errno.h>
+#include <string.h>
 #include <unistd.h>
 
 static int failed;
@@ -24,4 +26,10 @@ void output_write(unsigned stream, const uint8_t *bytes, size_t count)
 int output_failed(void)
 {
     return failed;
+}
+
+int output_show(const char *text)
+{
+    output_write(0, (const uint8_t *)text, strlen(text));
+    return failed ? STATION_EXIT_FILE : STATION_EXIT_DONE;
 }

@@ -11,4 +11,8 @@ void output_write(unsigned stream, const uint8_t *bytes, size_t count);
 
 int output_failed(void);
 
+/* A whole text to standard output. Gives the exit status of a program that has
+ * nothing else to do. */
+int output_show(const char *text);
+
 #endif

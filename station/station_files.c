@@ -133,20 +133,34 @@ int sf_save(sf_station *s, const sf_file *files, size_t count)
     return SF_OK;
 }
 
-int sf_restore(sf_station *s, sf_file *files, size_t count)
+/* Gives the number of the present one; on trouble says so. */
+static int read_before(sf_station *s, unsigned long *gen, sf_file *files, size_t count)
 {
     current_text text;
-    unsigned long gen = 0;
     const char *advice = BACKUP;
-    if (current_read(s, &gen, text) != SF_OK)
+    if (current_read(s, gen, text) != SF_OK)
         advice = NUMBER;
-    else if (gen == 1)
+    else if (*gen == 1)
         (void)fs_bad(s, 0, NULL, 0, "has no save before the present one");
-    else if (generation_read(s, gen - 1, files, count, NULL) == SF_OK) {
-        if (save_after(s, gen, files, count) == SF_OK)
-            return SF_OK;
-        advice = STANDS;
-    }
+    else if (generation_read(s, *gen - 1, files, count, NULL) == SF_OK)
+        return SF_OK;
     forget(files, count);
     return fs_say(s, SF_TROUBLE, advice);
+}
+
+int sf_load_before(sf_station *s, sf_file *files, size_t count)
+{
+    unsigned long gen = 0;
+    return read_before(s, &gen, files, count);
+}
+
+int sf_restore(sf_station *s, sf_file *files, size_t count)
+{
+    unsigned long gen = 0;
+    if (read_before(s, &gen, files, count) != SF_OK)
+        return SF_TROUBLE;
+    if (save_after(s, gen, files, count) == SF_OK)
+        return SF_OK;
+    forget(files, count);
+    return fs_say(s, SF_TROUBLE, STANDS);
 }

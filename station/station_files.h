@@ -70,6 +70,10 @@ int sf_load(sf_station *s, sf_file *roms, size_t rom_count, sf_file *files, size
  * result is SF_OK. */
 int sf_save(sf_station *s, const sf_file *files, size_t count);
 
+/* Read the generation before the present one into the arrays. Writes nothing. On
+ * trouble the arrays hold no state. */
+int sf_load_before(sf_station *s, sf_file *files, size_t count);
+
 /* Read the generation before the present one and save it as the next one. The
  * arrays then hold it, and on trouble no state. A second restore undoes the
  * first. */

@@ -1,6 +1,7 @@
 /* wants.c - see wants.h. */
 #include "wants.h"
 
+#include "convert.h"
 #include "lent.h"
 #include "named.h"
 #include "say.h"
@@ -16,14 +17,22 @@ uint64_t wants_save(station *s)
     return r == SF_OK ? STATION_EVENT_SAVED : STATION_EVENT_NOT_SAVED;
 }
 
-/* By way of the other set: where it fails, the state at hand stays. */
+/* By way of the other set: where it fails, the state at hand stays. A save of the
+ * version before can not be lent to this session. */
 uint64_t wants_restore(station *s)
 {
     if (s->files.fd < 0) {
         say(s->path, "has no save yet", 0, "save it first");
         return STATION_EVENT_NOT_RESTORED;
     }
-    if (sf_restore(&s->files, lent_other.files, FILES) != SF_OK)
+    if (sf_load_before(&s->files, lent_other.files, FILES) != SF_OK)
+        return STATION_EVENT_NOT_RESTORED;
+    if (convert_is_old(&lent_other)) {
+        say(s->path, "the save before the present one is of the version before", 0,
+            "to have it, leave and type: " PROGRAM " --restore STATION, then --convert STATION");
+        return STATION_EVENT_NOT_RESTORED;
+    }
+    if (sf_save(&s->files, lent_other.files, FILES) != SF_OK)
         return STATION_EVENT_NOT_RESTORED;
     lent_take_other();
     return STATION_EVENT_RESTORED;
@@ -84,5 +93,5 @@ int wants_other(const station *s, const uint64_t *session)
         return -1;
     r = sf_load(&other, lent_other.roms, ROMS, lent_other.files, FILES);
     (void)sf_close(&other); /* only read from */
-    return r == SF_OK ? 0 : -1;
+    return r == SF_OK && !convert_is_due(name, &lent_other) ? 0 : -1;
 }

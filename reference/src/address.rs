@@ -29,7 +29,7 @@ impl Access {
         Exception::plain(if self == Access::Fetch { BUS_FETCH } else { BUS_DATA })
     }
 
-    fn table_code(self) -> u32 {
+    fn table_code(self) -> u8 {
         if self == Access::Store {
             TLB_STORE
         } else {
@@ -38,15 +38,41 @@ impl Access {
     }
 }
 
-/// Privilege and translation; alignment is tested by the caller, who alone
-/// knows the width. The low twelve bits stay as they are.
-#[inline]
-pub fn physical(machine: &Machine, address: u32, access: Access) -> Result<u32, Exception> {
-    if !allowed(machine, address) {
-        return Err(access.address_error(address));
+/// What a second entry that matches does: a run stops before the step, and the
+/// step, where it is taken all the same, goes on with the lowest.
+#[derive(Clone, Copy, PartialEq, Eq)]
+pub enum Second {
+    Stops,
+    IsPassedBy,
+}
+
+/// Why there is no way on.
+pub enum Stop {
+    Raised(Exception),
+    TwoMatches,
+}
+
+impl From<Exception> for Stop {
+    fn from(exception: Exception) -> Stop {
+        Stop::Raised(exception)
     }
-    if is_translated(machine, address) {
-        return translated(machine, address, access);
+}
+
+/// The place on the bus that an access leads to, by alignment, privilege and
+/// translation. The low twelve bits of the address stay as they are.
+#[inline]
+pub fn route(
+    machine: &Machine,
+    address: u32,
+    bytes: u32,
+    access: Access,
+    second: Second,
+) -> Result<u32, Stop> {
+    if address & (bytes - 1) != 0 || !allowed(machine, address) {
+        return Err(access.address_error(address).into());
+    }
+    if machine.status.virtual_memory() && address >= TRANSLATED_FROM {
+        return translated(machine, address, access, second);
     }
     Ok(address)
 }
@@ -58,29 +84,25 @@ fn allowed(machine: &Machine, address: u32) -> bool {
     !status.user_mode() || address >= open_from
 }
 
-#[inline]
-fn is_translated(machine: &Machine, address: u32) -> bool {
-    machine.status.virtual_memory() && address >= TRANSLATED_FROM
-}
-
-/// Whether an aligned access at `address` meets two entries that match. What
-/// the entries hold does not matter.
-pub fn meets_two(machine: &Machine, address: u32) -> bool {
-    allowed(machine, address)
-        && is_translated(machine, address)
-        && search(&machine.tlb, address, machine.entry_hi).map_or(false, |found| found.second)
-}
-
-/// Of several entries that match the lowest counts. No run gets here with two.
-fn translated(machine: &Machine, address: u32, access: Access) -> Result<u32, Exception> {
+/// Apart, so that the way without translation stays short.
+#[inline(never)]
+fn translated(
+    machine: &Machine,
+    address: u32,
+    access: Access,
+    second: Second,
+) -> Result<u32, Stop> {
     let found = search(&machine.tlb, address, machine.entry_hi)
         .ok_or_else(|| Exception::miss(access.table_code(), address))?;
+    if found.second && second == Second::Stops {
+        return Err(Stop::TwoMatches);
+    }
     let low = machine.tlb[found.number].low;
     if low & VALID == 0 {
-        return Err(Exception::at(access.table_code(), address));
+        return Err(Exception::at(access.table_code(), address).into());
     }
     if access == Access::Store && low & DIRTY == 0 {
-        return Err(Exception::at(MODIFICATION, address));
+        return Err(Exception::at(MODIFICATION, address).into());
     }
     Ok(low & PAGE | address & !PAGE)
 }

@@ -1,6 +1,6 @@
 //! SPECIAL instructions on registers, HI and LO.
 
-use crate::branch;
+use crate::branch::{link, Way};
 use crate::exception::{Exception, BREAKPOINT, OVERFLOW, RESERVED, SYSCALL};
 use crate::machine::Machine;
 use crate::record::Recorder;
@@ -40,13 +40,13 @@ fn divide_unsigned(machine: &mut Machine, a: u32, b: u32) {
     }
 }
 
-/// Executes a SPECIAL word and answers the jump target, if it is a jump.
+/// Executes a SPECIAL word; JR and JALR are among them.
 #[inline]
 pub fn special<R: Recorder>(
     machine: &mut Machine,
     recorder: &mut R,
     word: u32,
-) -> Result<Option<u32>, Exception> {
+) -> Result<Way, Exception> {
     let a = machine.register(rs(word));
     let b = machine.register(rt(word));
     let result = match function(word) {
@@ -56,10 +56,10 @@ pub fn special<R: Recorder>(
         4 => b << (a & 31),
         6 => b >> (a & 31),
         7 => (b as i32 >> (a & 31)) as u32,
-        8 => return Ok(Some(a)),
+        8 => return Ok(Way::To(a)),
         9 => {
-            machine.set_register(recorder, rd(word), branch::link(machine.pc));
-            return Ok(Some(a));
+            machine.set_register(recorder, rd(word), link(machine.pc));
+            return Ok(Way::To(a));
         }
         12 => return Err(Exception::plain(SYSCALL)),
         13 => return Err(Exception::plain(BREAKPOINT)),
@@ -67,7 +67,7 @@ pub fn special<R: Recorder>(
         18 => machine.lo,
         17 | 19 | 24..=27 => {
             write_hi_lo(machine, function(word), a, b);
-            return Ok(None);
+            return Ok(Way::On);
         }
         32 => add_or_overflow(a, b)?,
         33 => a.wrapping_add(b),
@@ -82,7 +82,7 @@ pub fn special<R: Recorder>(
         _ => return Err(Exception::plain(RESERVED)),
     };
     machine.set_register(recorder, rd(word), result);
-    Ok(None)
+    Ok(Way::On)
 }
 
 fn write_hi_lo(machine: &mut Machine, function: u32, a: u32, b: u32) {

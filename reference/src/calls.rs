@@ -1,7 +1,10 @@
 //! Reset and run, with their refusals.
 
+use crate::address::{Second, Stop};
 use crate::answer::{Answer, BUDGET_SPENT, EXCEPTION, NO_REASON, TWO_MATCHES};
+use crate::exception::Exception;
 use crate::image::{decode, encode, IMAGE_BYTES};
+use crate::look::{look, Instruction};
 use crate::machine::Machine;
 use crate::memory::Memory;
 use crate::printer::READY;
@@ -12,8 +15,7 @@ use crate::sizes::{
     record_slots, rom_fits, time_scale_fits, RECORD_BYTES,
 };
 use crate::status::Status;
-use crate::step::step;
-use crate::two_matches::step_meets_two;
+use crate::step::take;
 
 pub fn reset(image: &mut [u8], time_scale: u64, printer_delay: u64, installed: u64) -> Answer {
     if image.len() != IMAGE_BYTES {
@@ -71,14 +73,21 @@ pub fn run_recorded<R: Recorder>(
     recorder: &mut R,
 ) -> Answer {
     let slots = record_slots(journal.len()) as u32;
-    run_steps(image, memory, journal.len(), budget, stop_at_exceptions, |machine, memory| {
-        let start = machine.next_slot as usize * RECORD_BYTES;
-        recorder.before_step(machine);
-        let entered = step(machine, memory, recorder);
-        move_on(machine, slots);
-        recorder.after_step(machine, journal.get_mut(start..start + RECORD_BYTES));
-        entered
-    })
+    run_steps(
+        image,
+        memory,
+        journal.len(),
+        budget,
+        stop_at_exceptions,
+        |machine, memory, coming| {
+            let start = machine.next_slot as usize * RECORD_BYTES;
+            recorder.before_step(machine);
+            let entered = take(machine, memory, recorder, coming);
+            move_on(machine, slots);
+            recorder.after_step(machine, journal.get_mut(start..start + RECORD_BYTES));
+            entered
+        },
+    )
 }
 
 /// The refusals and the loop of every run. `take_step` also moves the place in
@@ -90,7 +99,7 @@ pub(crate) fn run_steps(
     journal_len: usize,
     budget: u64,
     stop_at_exceptions: u64,
-    mut take_step: impl FnMut(&mut Machine, &mut Memory) -> bool,
+    mut take_step: impl FnMut(&mut Machine, &mut Memory, Result<Instruction, Exception>) -> bool,
 ) -> Answer {
     let refusal = run_refusal(image, &memory, journal_len, budget);
     if refusal != 0 {
@@ -104,10 +113,12 @@ pub(crate) fn run_steps(
         if steps == budget {
             break BUDGET_SPENT;
         }
-        if machine.status.virtual_memory() && step_meets_two(&machine, &memory) {
-            break TWO_MATCHES;
-        }
-        let entered = take_step(&mut machine, &mut memory);
+        let coming = match look(&machine, &memory, Second::Stops) {
+            Ok(instruction) => Ok(instruction),
+            Err(Stop::Raised(exception)) => Err(exception),
+            Err(Stop::TwoMatches) => break TWO_MATCHES,
+        };
+        let entered = take_step(&mut machine, &mut memory, coming);
         steps += 1;
         if entered && stops {
             break EXCEPTION;

@@ -1,56 +1,56 @@
 //! One instruction, chosen by its opcode.
 
 use crate::alu::{add_or_overflow, special};
-use crate::branch::{bcond, branch_target, jump_and_link, jump_target};
+use crate::branch::{bcond, branch_target, jump_and_link, jump_target, move_on, Way};
 use crate::cp0::cop0;
 use crate::exception::{Exception, RESERVED};
 use crate::load_store::{load, store};
+use crate::look::Instruction;
 use crate::machine::Machine;
 use crate::memory::Memory;
 use crate::record::Recorder;
 use crate::word::{opcode, rs, rt, signed_immediate, unsigned_immediate};
 
-/// Executes `word` and moves PC on. An instruction that raises an exception
+/// Executes an instruction and moves PC on. An instruction that raises an exception
 /// has changed nothing.
 #[inline]
 pub fn execute<R: Recorder>(
     machine: &mut Machine,
     memory: &mut Memory,
     recorder: &mut R,
-    word: u32,
+    instruction: Instruction,
 ) -> Result<(), Exception> {
-    let target = match opcode(word) {
+    let Instruction { word, place } = instruction;
+    let way = match opcode(word) {
         0x00 => special(machine, recorder, word)?,
         0x01 => bcond(machine, recorder, word)?,
-        0x02 => Some(jump_target(machine.pc, word)),
-        0x03 => Some(jump_and_link(machine, recorder, word)),
-        0x04..=0x07 => compare(machine, word).then(|| branch_target(machine.pc, word)),
+        0x02 => Way::To(jump_target(machine.pc, word)),
+        0x03 => Way::To(jump_and_link(machine, recorder, word)),
+        0x04..=0x07 => Way::to_if(compare(machine, word), branch_target(machine.pc, word)),
         0x08..=0x0F => {
             let result = immediate(machine, word)?;
             machine.set_register(recorder, rt(word), result);
-            None
+            Way::On
         }
         0x10 => {
             cop0(machine, recorder, word)?;
-            None
+            Way::On
         }
         // COP1 to 3, LWC1 to 3, SWC1 to 3: the low two bits are the number.
         0x11..=0x13 | 0x31..=0x33 | 0x39..=0x3B => {
-            return Err(Exception::unusable(opcode(word) & 3));
+            return Err(Exception::unusable(opcode(word) as u8 & 3));
         }
         0x20..=0x26 => {
-            load(machine, memory, recorder, word)?;
-            None
+            load(machine, memory, recorder, word, place)?;
+            Way::On
         }
         0x28..=0x2E => {
-            store(machine, memory, recorder, word)?;
-            None
+            store(machine, memory, recorder, word, place)?;
+            Way::On
         }
         _ => return Err(Exception::plain(RESERVED)),
     };
-    let following = machine.next_pc.wrapping_add(4);
-    machine.pc = machine.next_pc;
-    machine.next_pc = target.unwrap_or(following);
+    move_on(machine, way);
     Ok(())
 }
 

@@ -1,21 +1,50 @@
-//! The state image: 501 bytes, big-endian.
+//! The state image: big-endian, in the present version or the one before it.
 
 use crate::machine::{Entry, Machine, Printer};
 use crate::printer::BUSY;
 use crate::status::Status;
 
-pub const IMAGE_BYTES: usize = 501;
-pub const LENGTH_WORD: u32 = 497;
-pub const VERSION: u8 = 1;
-
 /// The words start behind the length word and the version byte.
-const FIRST_WORD: usize = 5;
+const LENGTH_BYTES: usize = 4;
+const FIRST_WORD: usize = LENGTH_BYTES + 1;
+
+/// A version of the image. Each ends with the words that it adds to the one
+/// before it.
+pub(crate) struct Form {
+    version: u8,
+    words: usize,
+}
+
+pub(crate) const PRESENT: Form = Form { version: 2, words: 126 };
+pub(crate) const BEFORE: Form = Form { version: 1, words: 124 };
+
+pub const IMAGE_BYTES: usize = PRESENT.bytes();
+
+/// The length of an image that `convert` takes.
+pub const OLD_IMAGE_BYTES: usize = BEFORE.bytes();
+
+impl Form {
+    const fn bytes(&self) -> usize {
+        FIRST_WORD + 4 * self.words
+    }
+
+    /// The length word, which counts the bytes behind it, and the version byte.
+    fn head(&self) -> [u8; FIRST_WORD] {
+        let [a, b, c, d] = ((self.bytes() - LENGTH_BYTES) as u32).to_be_bytes();
+        [a, b, c, d, self.version]
+    }
+
+    /// Whether an image has the length and the head of this version.
+    pub(crate) fn is_of(&self, image: &[u8]) -> bool {
+        image.len() == self.bytes() && image[..FIRST_WORD] == self.head()
+    }
+}
 
 struct Reader<'a>(std::slice::ChunksExact<'a, u8>);
 
 impl Reader<'_> {
     fn word(&mut self) -> u32 {
-        let bytes = self.0.next().expect("the image holds 124 words");
+        let bytes = self.0.next().expect("the image holds so many words");
         u32::from_be_bytes(bytes.try_into().expect("a chunk is four bytes"))
     }
 }
@@ -24,21 +53,28 @@ struct Writer<'a>(std::slice::ChunksExactMut<'a, u8>);
 
 impl Writer<'_> {
     fn word(&mut self, value: u32) {
-        let bytes = self.0.next().expect("the image holds 124 words");
+        let bytes = self.0.next().expect("the image holds so many words");
         bytes.copy_from_slice(&value.to_be_bytes());
     }
 }
 
-/// The length word and the version byte of an image.
-pub(crate) fn head(image: &[u8]) -> (u32, u8) {
-    let length = u32::from_be_bytes([image[0], image[1], image[2], image[3]]);
-    (length, image[4])
+/// Reads the words of an image, whether or not it keeps the rules.
+pub fn decode(image: &[u8]) -> Machine {
+    assert_eq!(image.len(), PRESENT.bytes());
+    let mut from = Reader(image[FIRST_WORD..].chunks_exact(4));
+    let mut machine = old_words(&mut from);
+    machine.slot_flag = from.word();
+    machine.branch_address = from.word();
+    machine
 }
 
-/// Reads the words of an image of 501 bytes, whether or not it keeps the rules.
-pub fn decode(image: &[u8]) -> Machine {
-    assert_eq!(image.len(), IMAGE_BYTES);
-    let mut from = Reader(image[FIRST_WORD..].chunks_exact(4));
+/// Reads the words of an image of the version before. What it lacks is 0.
+pub(crate) fn decode_old(image: &[u8]) -> Machine {
+    assert_eq!(image.len(), BEFORE.bytes());
+    old_words(&mut Reader(image[FIRST_WORD..].chunks_exact(4)))
+}
+
+fn old_words(from: &mut Reader) -> Machine {
     let mut machine = Machine::default();
     for register in &mut machine.registers[1..] {
         *register = from.word();
@@ -83,11 +119,10 @@ pub fn decode(image: &[u8]) -> Machine {
     machine
 }
 
-/// Writes a whole image of 501 bytes.
+/// Writes a whole image of the present version.
 pub fn encode(machine: &Machine, image: &mut [u8]) {
-    assert_eq!(image.len(), IMAGE_BYTES);
-    image[..4].copy_from_slice(&LENGTH_WORD.to_be_bytes());
-    image[4] = VERSION;
+    assert_eq!(image.len(), PRESENT.bytes());
+    image[..FIRST_WORD].copy_from_slice(&PRESENT.head());
     let mut to = Writer(image[FIRST_WORD..].chunks_exact_mut(4));
     for register in &machine.registers[1..] {
         to.word(*register);
@@ -124,4 +159,6 @@ pub fn encode(machine: &Machine, image: &mut [u8]) {
     to.word(machine.pending);
     to.word(machine.on_hand);
     to.word(machine.next_slot);
+    to.word(machine.slot_flag);
+    to.word(machine.branch_address);
 }

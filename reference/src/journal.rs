@@ -6,8 +6,8 @@ use crate::layout::*;
 use crate::machine::{Entry, Machine};
 use crate::memory::Memory;
 use crate::record::Recorder;
-use crate::sizes::{record_slots, RECORD_BYTES};
-use crate::step::step;
+use crate::sizes::record_slots;
+use crate::step::take;
 
 /// The slot of the step that is being taken.
 struct RecordWriter<'a>(&'a mut Record);
@@ -30,6 +30,8 @@ impl<'a> RecordWriter<'a> {
         set_word(record, STATUS, machine.status.0);
         set_word(record, CAUSE, machine.cause);
         set_word(record, EPC, machine.epc);
+        set_word(record, SLOT_FLAG, machine.slot_flag);
+        set_word(record, BRANCH_ADDRESS, machine.branch_address);
         set_word(record, TIMER, machine.timer);
         set_word(record, PENDING, machine.pending);
         for number in PRINTED..PRINTERS {
@@ -43,9 +45,7 @@ impl<'a> RecordWriter<'a> {
             set_word(record, at + 3, printer.ticks_left);
             set_word(record, at + 4, printer.paper_count);
         }
-        for number in UNUSED..RECORD_BYTES / 4 {
-            set_word(record, number, 0);
-        }
+        set_word(record, UNUSED, 0);
         RecordWriter(record)
     }
 
@@ -114,10 +114,17 @@ pub fn run_with_records(
         );
     }
     let memory = Memory { execution_rom, bootstrap_rom, ram, paper };
-    run_steps(image, memory, journal.len(), budget, stop_at_exceptions, |machine, memory| {
-        let record = slot(journal, machine.next_slot);
-        let entered = step(machine, memory, &mut RecordWriter::start(record, machine));
-        move_on(machine, slots as u32);
-        entered
-    })
+    run_steps(
+        image,
+        memory,
+        journal.len(),
+        budget,
+        stop_at_exceptions,
+        |machine, memory, coming| {
+            let record = slot(journal, machine.next_slot);
+            let entered = take(machine, memory, &mut RecordWriter::start(record, machine), coming);
+            move_on(machine, slots as u32);
+            entered
+        },
+    )
 }

@@ -1,10 +1,11 @@
 //! The layout of the record of a step: 64 words, least significant byte first.
+//! Numbers are those of words, if nothing else is said.
 
-use crate::sizes::RECORD_BYTES;
+pub use crate::sizes::RECORD_BYTES;
 
 pub type Record = [u8; RECORD_BYTES];
 
-/// HI, the first of the fourteen words that are saved in every step.
+/// HI, the first of the sixteen words that are saved in every step.
 pub const HI: usize = 0;
 pub const LO: usize = 1;
 pub const PC: usize = 2;
@@ -17,20 +18,22 @@ pub const BAD_VADDR: usize = 8;
 pub const STATUS: usize = 9;
 pub const CAUSE: usize = 10;
 pub const EPC: usize = 11;
-pub const TIMER: usize = 12;
-pub const PENDING: usize = 13;
+pub const SLOT_FLAG: usize = 12;
+pub const BRANCH_ADDRESS: usize = 13;
+pub const TIMER: usize = 14;
+pub const PENDING: usize = 15;
 
 /// Bit k is on where printer k wrote on paper.
-pub const PRINTED: usize = 14;
+pub const PRINTED: usize = 16;
 
 /// The byte, not the word, at which the eight overwritten paper bytes start.
-pub const PAPER_BYTES: usize = 60;
+pub const PAPER_BYTES: usize = 4 * 17;
 
 /// What else was overwritten, and three words on it.
-pub const KIND: usize = 17;
-pub const WHICH: usize = 18;
-pub const OLD: usize = 19;
-pub const OLD_LOW: usize = 20;
+pub const KIND: usize = 19;
+pub const WHICH: usize = 20;
+pub const OLD: usize = 21;
+pub const OLD_LOW: usize = 22;
 
 pub const NOTHING: u32 = 0;
 pub const REGISTER: u32 = 1;
@@ -38,12 +41,11 @@ pub const TLB_ROW: u32 = 2;
 pub const RAM_WORD: u32 = 3;
 
 /// Eight printers of five words.
-pub const PRINTERS: usize = 21;
+pub const PRINTERS: usize = 23;
 pub const PRINTER_WORDS: usize = 5;
 
-/// Three words that hold nothing end the record.
-pub const UNUSED: usize = 61;
-const WORDS: usize = 64;
+/// A word that holds nothing ends the record.
+pub const UNUSED: usize = 63;
 
 #[inline]
 pub fn word(record: &Record, number: usize) -> u32 {
@@ -60,9 +62,7 @@ pub fn set_word(record: &mut Record, number: usize, value: u32) {
 /// Whether the bytes keep the layout; places and the image's rules are not
 /// part of it.
 pub fn keeps_layout(record: &Record) -> bool {
-    (UNUSED..WORDS).all(|number| word(record, number) == 0)
-        && kind_keeps_layout(record)
-        && paper_keeps_layout(record)
+    word(record, UNUSED) == 0 && kind_keeps_layout(record) && paper_keeps_layout(record)
 }
 
 fn kind_keeps_layout(record: &Record) -> bool {

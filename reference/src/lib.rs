@@ -1,6 +1,7 @@
-//! A plain emulator of the machine of document 01, written from that paper,
-//! the manual and the MIPS I instruction set only. It is the yardstick for
-//! other emulators of the same machine, in results and in speed.
+//! A plain emulator of the machine of document 01, with requests L2 and L5 of
+//! document 02, written from these papers, the manual and the MIPS I instruction
+//! set only. It is the yardstick for other emulators of the same machine, in
+//! results and in speed.
 
 mod address;
 mod alu;
@@ -9,14 +10,16 @@ mod branch;
 mod bus;
 mod calls;
 mod clock;
+mod convert;
 mod cp0;
 mod exception;
 mod execute;
 mod history;
 mod image;
 mod journal;
-mod layout;
+pub mod layout;
 mod load_store;
+mod look;
 mod machine;
 mod memory;
 mod printer;
@@ -28,14 +31,15 @@ mod status;
 mod step;
 mod take_back;
 mod tlb;
-mod two_matches;
 mod word;
 
 pub use answer::{Answer, BUDGET_SPENT, EXCEPTION, NO_REASON, TWO_MATCHES};
 pub use calls::{reset, run, run_recorded};
+pub use convert::convert;
 pub use history::History;
-pub use image::{decode, encode, IMAGE_BYTES};
+pub use image::{decode, encode, IMAGE_BYTES, OLD_IMAGE_BYTES};
 pub use journal::run_with_records;
+pub use look::step_meets_two;
 pub use machine::{Entry, Machine, Printer};
 pub use memory::Memory;
 pub use record::{NoRecord, Recorder};
@@ -44,4 +48,3 @@ pub use rules::keeps_rules;
 pub use status::Status;
 pub use step::step;
 pub use take_back::take_back;
-pub use two_matches::step_meets_two;

@@ -45,6 +45,11 @@ pub struct Machine {
     pub pending: u32,
     pub on_hand: u32,
     pub next_slot: u32,
+    /// 1 where the step before executed a branch or jump, so that the step to
+    /// come is its slot; else 0.
+    pub slot_flag: u32,
+    /// The address of that branch or jump; 0 where the flag is 0.
+    pub branch_address: u32,
     /// Bit n is on while printer n has STATUS 3. Follows from the printers and
     /// is no part of the image; it spares a step from looking at idle printers.
     pub(crate) busy: u32,

@@ -2,7 +2,7 @@
 
 use crate::cp0::{ENTRY_HI_MASK, ENTRY_LO_MASK};
 use crate::exception::{CAUSE_MASK, EXC_CODE_SHIFT, HIGHEST_CODE, IP_PRINTERS};
-use crate::image::{decode, head, IMAGE_BYTES, LENGTH_WORD, VERSION};
+use crate::image::{decode, decode_old, BEFORE, PRESENT};
 use crate::machine::{Machine, Printer};
 use crate::printer::{BUSY, PRINTCHR, RESET};
 use crate::sizes::{installed_fits, printer_delay_fits, record_slots, time_scale_fits};
@@ -15,9 +15,13 @@ const IP_EMPTY_LINES: u32 = 0xB800;
 
 /// Whether an image keeps the rules, with paper and journal of these lengths.
 pub fn keeps_rules(image: &[u8], paper_len: usize, journal_len: usize) -> bool {
-    image.len() == IMAGE_BYTES
-        && head(image) == (LENGTH_WORD, VERSION)
-        && machine_keeps_rules(&decode(image), paper_len, journal_len)
+    PRESENT.is_of(image) && machine_keeps_rules(&decode(image), paper_len, journal_len)
+}
+
+/// The same of an image of the version before. Its rules are the present ones
+/// but for the slot, which it does not have.
+pub(crate) fn old_keeps_rules(image: &[u8], paper_len: usize, journal_len: usize) -> bool {
+    BEFORE.is_of(image) && machine_keeps_rules(&decode_old(image), paper_len, journal_len)
 }
 
 pub(crate) fn machine_keeps_rules(machine: &Machine, paper_len: usize, journal_len: usize) -> bool {
@@ -28,6 +32,7 @@ pub(crate) fn machine_keeps_rules(machine: &Machine, paper_len: usize, journal_l
         && machine.pending & !machine.installed == 0
         && (0..8).all(|number| printer_keeps_rules(machine, number, paper_len))
         && journal_place_keeps_rules(machine, record_slots(journal_len))
+        && slot_keeps_rules(machine)
 }
 
 fn cp0_keeps_rules(machine: &Machine) -> bool {
@@ -72,4 +77,11 @@ fn journal_place_keeps_rules(machine: &Machine, slots: usize) -> bool {
     let next_slot = machine.next_slot as usize;
     let next_slot_fits = if slots == 0 { next_slot == 0 } else { next_slot < slots };
     machine.on_hand as usize <= slots && next_slot_fits
+}
+
+fn slot_keeps_rules(machine: &Machine) -> bool {
+    match machine.slot_flag {
+        0 => machine.branch_address == 0,
+        flag => flag == 1,
+    }
 }

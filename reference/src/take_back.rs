@@ -5,7 +5,7 @@ use crate::image::{decode, encode};
 use crate::layout::*;
 use crate::machine::{Entry, Machine, Printer};
 use crate::rules::{keeps_rules, machine_keeps_rules};
-use crate::sizes::{journal_fits, paper_fits, ram_fits, record_slots, RECORD_BYTES};
+use crate::sizes::{journal_fits, paper_fits, ram_fits, record_slots};
 use crate::status::Status;
 
 /// Undoes the newest steps from their records.
@@ -126,6 +126,8 @@ fn undo(machine: &mut Machine, record: &Record, slots: u32) {
     machine.status = Status(word(record, STATUS));
     machine.cause = word(record, CAUSE);
     machine.epc = word(record, EPC);
+    machine.slot_flag = word(record, SLOT_FLAG);
+    machine.branch_address = word(record, BRANCH_ADDRESS);
     machine.timer = word(record, TIMER);
     machine.pending = word(record, PENDING);
     machine.clock = machine.clock.wrapping_sub(1);

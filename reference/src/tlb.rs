@@ -16,14 +16,20 @@ pub struct Found {
 }
 
 /// Looks for the page of `address` and the ASID of `entry_hi`. G lets the ASID
-/// differ, never the page.
+/// differ, never the page. Every entry is looked at, since a second one counts.
 #[inline]
 pub fn search(tlb: &[Entry; 16], address: u32, entry_hi: u32) -> Option<Found> {
-    let matches = |entry: &Entry| {
-        let page_matches = (entry.high ^ address) & PAGE == 0;
-        let asid_matches = (entry.high ^ entry_hi) & ASID == 0;
-        page_matches && (asid_matches || entry.low & GLOBAL != 0)
-    };
-    let number = tlb.iter().position(matches)?;
-    Some(Found { number, second: tlb[number + 1..].iter().any(matches) })
+    let wanted = address & PAGE | entry_hi & ASID;
+    let mut matches: u32 = 0;
+    for (number, entry) in tlb.iter().enumerate() {
+        let compared = if entry.low & GLOBAL != 0 { PAGE } else { PAGE | ASID };
+        if (entry.high ^ wanted) & compared == 0 {
+            matches |= 1 << number;
+        }
+    }
+    if matches == 0 {
+        return None;
+    }
+    let number = matches.trailing_zeros() as usize;
+    Some(Found { number, second: matches.count_ones() > 1 })
 }

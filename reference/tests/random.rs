@@ -5,7 +5,7 @@ mod common;
 use common::dice::Dice;
 use common::states::random_bench;
 use common::*;
-use reference::{Answer, BUDGET_SPENT, EXCEPTION, IMAGE_BYTES, TWO_MATCHES};
+use reference::{Answer, BUDGET_SPENT, EXCEPTION, IMAGE_BYTES, OLD_IMAGE_BYTES, TWO_MATCHES};
 
 const MACHINES: u32 = 4_000;
 const STEPS: u32 = 60;
@@ -91,7 +91,8 @@ const RAMS: [(usize, bool); 4] = [(0, false), (4_095, false), (4_096, true), (8_
 const ROMS: [(usize, bool); 5] = [(0, false), (4, true), (5, false), (512, true), (65_540, false)];
 const PAPERS: [(usize, bool); 4] = [(0, true), (12, false), (64, true), (65_544, false)];
 const JOURNALS: [(usize, bool); 4] = [(0, true), (128, false), (512, true), (768, true)];
-const IMAGES: [(usize, bool); 3] = [(500, false), (IMAGE_BYTES, true), (IMAGE_BYTES, true)];
+const IMAGES: [(usize, bool); 3] =
+    [(OLD_IMAGE_BYTES, false), (IMAGE_BYTES, true), (IMAGE_BYTES, true)];
 const BUDGETS: [(u64, bool); 4] = [(0, true), (5, true), (1_000_001, false), (1 << 40, false)];
 
 /// One of the table, seldom a bad one, so that every row gets its turn.
@@ -120,7 +121,7 @@ fn the_lowest_refusal_is_answered() {
         image.resize(image_len, 0);
         let spoiled = dice.chance(8);
         if spoiled {
-            image[4] = 2;
+            image[4] = 1;
         }
         let rows = [
             ram_fits,

@@ -53,10 +53,10 @@ fn reading_13_entry_moves_the_printers() {
 }
 
 #[test]
-fn reading_14_entry_between_branch_and_slot() {
+fn reading_14_entry_between_branch_and_slot_by_l2() {
     let bench = timer_in(2, &[beq(0, 0, 5), NOP]).trap(2);
-    assert_eq!((bench.machine.epc, bench.machine.next_pc), (RAM + 4, 0x84));
-    assert_eq!(bench.machine.cause >> 31, 0);
+    assert_eq!((bench.machine.epc, bench.machine.next_pc), (RAM, 0x84));
+    assert_eq!(bench.machine.cause >> 31, 1);
 }
 
 #[test]

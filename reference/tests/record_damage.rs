@@ -15,7 +15,7 @@ fn damage(dice: &mut Dice, record: &mut [u8], way: usize) {
         3 => put_words(record, 4 * dice.below(64) as usize, &[dice.below(40)]),
         4 => {
             for _ in 0..dice.below(4) {
-                record[56 + dice.below(16) as usize] = dice.pick(&[0, 1, 2, 3, 4, 8, 128]) as u8;
+                record[64 + dice.below(16) as usize] = dice.pick(&[0, 1, 2, 3, 4, 8, 128]) as u8;
             }
         }
         5 => record.rotate_left(4 + 4 * dice.below(63) as usize),

@@ -36,7 +36,7 @@ fn number_at(mut bench: Bench, age: u32, changes: &[Change]) -> u8 {
 fn expect(number: u8, changes: &[Change]) {
     for age in 0..3 {
         // The older records start as a step that overwrote nothing else.
-        let mut plain = vec![(17, 0), (18, 0), (19, 0)];
+        let mut plain = vec![(19, 0), (20, 0), (21, 0)];
         plain.extend(changes);
         assert_eq!(number_at(three_steps(), age, &plain), number, "{age} {changes:?}");
     }
@@ -53,47 +53,64 @@ fn all_fine(table: &[&[Change]]) {
 }
 
 #[test]
-fn words_61_to_63() {
+fn word_63() {
     expect(0, &[]);
-    all_bad(&[&[(61, 1)], &[(62, 1)], &[(63, 1)], &[(61, 1 << 31)], &[(63, 1 << 31)]]);
+    all_bad(&[&[(63, 1)], &[(63, 1 << 8)], &[(63, 1 << 31)], &[(63, u32::MAX)]]);
+}
+
+#[test]
+fn the_slot_flag_and_the_branch_address() {
+    all_bad(&[
+        &[(12, 2)],
+        &[(12, 1 << 31)],
+        &[(12, 0x100), (13, 1)],
+        &[(12, u32::MAX), (13, u32::MAX)],
+        &[(13, 1)],
+        &[(13, 1 << 31)],
+    ]);
+    all_fine(&[&[(12, 1)], &[(12, 1), (13, 3)], &[(12, 1), (13, u32::MAX)]]);
+    let mut bench = three_steps();
+    put_words(bench.record(0), 12 * 4, &[1, 0xBBBB_000D]);
+    assert_eq!(bench.take_back(1), Answer::done(0, 1));
+    assert_eq!((bench.machine.slot_flag, bench.machine.branch_address), (1, 0xBBBB_000D));
 }
 
 #[test]
 fn the_kind_and_its_words() {
     all_bad(&[
-        &[(17, 4)],
-        &[(17, 0x100)],
-        &[(17, u32::MAX)],
-        &[(18, 1)],
-        &[(19, 1)],
+        &[(19, 4)],
+        &[(19, 0x100)],
+        &[(19, u32::MAX)],
         &[(20, 1)],
-        &[(17, 1), (18, 0)],
-        &[(17, 1), (18, 32)],
-        &[(17, 1), (18, 0x101)],
-        &[(17, 1), (18, 5), (20, 1)],
-        &[(17, 2), (18, 16)],
-        &[(17, 2), (18, u32::MAX)],
-        &[(17, 3), (18, 1)],
-        &[(17, 3), (18, 2)],
-        &[(17, 3), (18, 0x103)],
-        &[(17, 3), (18, 4), (20, 1)],
+        &[(21, 1)],
+        &[(22, 1)],
+        &[(19, 1), (20, 0)],
+        &[(19, 1), (20, 32)],
+        &[(19, 1), (20, 0x101)],
+        &[(19, 1), (20, 5), (22, 1)],
+        &[(19, 2), (20, 16)],
+        &[(19, 2), (20, u32::MAX)],
+        &[(19, 3), (20, 1)],
+        &[(19, 3), (20, 2)],
+        &[(19, 3), (20, 0x103)],
+        &[(19, 3), (20, 4), (22, 1)],
     ]);
     all_fine(&[
-        &[(17, 1), (18, 1)],
-        &[(17, 1), (18, 31), (19, u32::MAX)],
-        &[(17, 2)],
-        &[(17, 2), (18, 15), (19, 0xFFFF_FFC0), (20, 0xFFFF_FF00)],
-        &[(17, 3)],
-        &[(17, 3), (18, 0x1FFC), (19, u32::MAX)],
+        &[(19, 1), (20, 1)],
+        &[(19, 1), (20, 31), (21, u32::MAX)],
+        &[(19, 2)],
+        &[(19, 2), (20, 15), (21, 0xFFFF_FFC0), (22, 0xFFFF_FF00)],
+        &[(19, 3)],
+        &[(19, 3), (20, 0x1FFC), (21, u32::MAX)],
     ]);
 }
 
 #[test]
 fn ram_places() {
-    all_bad(&[&[(17, 3), (18, 0x2000)], &[(17, 3), (18, 0xFFFF_FFFC)]]);
+    all_bad(&[&[(19, 3), (20, 0x2000)], &[(19, 3), (20, 0xFFFF_FFFC)]]);
     // RAM lent shorter than at the run (reading 80).
     let mut shorter = three_steps();
-    put_words(shorter.record(0), 18 * 4, &[0x1000]);
+    put_words(shorter.record(0), 20 * 4, &[0x1000]);
     assert_eq!(shorter.clone().take_back(1).number, 0);
     shorter.ram.truncate(0x1000);
     assert_eq!(shorter.take_back(1).number, 8);
@@ -102,14 +119,14 @@ fn ram_places() {
 #[test]
 fn the_map_of_printed_bytes() {
     all_bad(&[
-        &[(14, 0x100)],
-        &[(14, 1 << 31)],
-        &[(15, 1)],
-        &[(16, 1 << 24)],
-        &[(14, 0xFE), (15, 1)],
-        &[(14, 0x7F), (16, 1 << 24)],
+        &[(16, 0x100)],
+        &[(16, 1 << 31)],
+        &[(17, 1)],
+        &[(18, 1 << 24)],
+        &[(16, 0xFE), (17, 1)],
+        &[(16, 0x7F), (18, 1 << 24)],
     ]);
-    all_fine(&[&[(14, 0xFF)], &[(14, 0xFF), (15, u32::MAX), (16, u32::MAX)], &[(14, 4)]]);
+    all_fine(&[&[(16, 0xFF)], &[(16, 0xFF), (17, u32::MAX), (18, u32::MAX)], &[(16, 4)]]);
 }
 
 #[test]
@@ -119,27 +136,27 @@ fn paper_places() {
         let mut bench = three_steps();
         bench.machine.installed = 0x85;
         bench.machine.printers[7].status = 1;
-        number_at(bench, 0, &[(14, 0x80), (56, 1), (60, count)])
+        number_at(bench, 0, &[(16, 0x80), (58, 1), (62, count)])
     };
     assert_eq!((with_printer_7(3), with_printer_7(4)), (0, 8));
     // Within the paper is enough: it is the next printer's first byte here.
     let mut bench = three_steps();
-    put_words(bench.record(0), 14 * 4, &[4, 0x55 << 16]);
-    put_words(bench.record(0), 35 * 4, &[4]);
+    put_words(bench.record(0), 16 * 4, &[4, 0x55 << 16]);
+    put_words(bench.record(0), 37 * 4, &[4]);
     assert_eq!(bench.take_back(1).number, 0);
     assert_eq!(bench.paper[12], 0x55);
     // Two bytes for one place: the lower printer's stands.
     let mut bench = three_steps();
-    put_words(bench.record(0), 14 * 4, &[4 + 8, 0x6655 << 16]);
-    put_words(bench.record(0), 35 * 4, &[4]);
+    put_words(bench.record(0), 16 * 4, &[4 + 8, 0x6655 << 16]);
+    put_words(bench.record(0), 37 * 4, &[4]);
     assert_eq!(bench.take_back(1).number, 0);
     assert_eq!(bench.paper[12], 0x55);
     // Without paper no printer has a place.
     let mut bench = three_steps();
     bench.paper.clear();
     bench.machine.printers[2].paper_count = 0;
-    assert_eq!(number_at(bench.clone(), 0, &[(35, 0)]), 0);
-    assert_eq!(number_at(bench, 0, &[(35, 0), (14, 1)]), 8);
+    assert_eq!(number_at(bench.clone(), 0, &[(37, 0)]), 0);
+    assert_eq!(number_at(bench, 0, &[(37, 0), (16, 1)]), 8);
 }
 
 #[test]
@@ -162,34 +179,34 @@ fn the_image_given_back_keeps_the_rules() {
         &[(10, 0x2000)],
         &[(10, 0x8000)],
         &[(10, 0x4000)],
-        &[(13, 1)],
-        &[(13, 2), (10, 0x4000)],
-        &[(13, 4), (10, 0x4000)],
-        &[(17, 2), (19, 1)],
-        &[(17, 2), (20, 1)],
-        &[(21, 0)],
-        &[(21, 5)],
-        &[(24, 1)],
-        &[(25, 5)],
+        &[(15, 1)],
+        &[(15, 2), (10, 0x4000)],
+        &[(15, 4), (10, 0x4000)],
+        &[(19, 2), (21, 1)],
+        &[(19, 2), (22, 1)],
+        &[(23, 0)],
+        &[(23, 5)],
         &[(26, 1)],
-        &[(27, 1)],
+        &[(27, 5)],
         &[(28, 1)],
         &[(29, 1)],
         &[(30, 1)],
-        &[(32, 1)],
-        &[(34, 0)],
-        &[(34, 10)],
-        &[(35, 5)],
         &[(31, 1)],
+        &[(32, 1)],
+        &[(34, 1)],
+        &[(36, 0)],
+        &[(36, 10)],
+        &[(37, 5)],
+        &[(33, 1)],
     ]);
     all_fine(&[
-        &[(0, 1), (1, 2), (2, 3), (3, 5), (8, 1), (11, 3), (12, 9)],
+        &[(0, 1), (1, 2), (2, 3), (3, 5), (8, 1), (11, 3), (14, 9)],
         &[(4, 0x8000_3F00), (5, 0x100), (6, 0xFFFF_FFC0), (7, 0xFFFF_FF00)],
         &[(9, 0x1740_FF3F), (10, 0xB000_0730)],
-        &[(10, 0x4000), (13, 1)],
-        &[(21, 4), (22, 99), (23, 99), (25, 4)],
-        &[(31, 3), (32, 0), (34, 9), (35, 4)],
-        &[(31, 2), (34, 0)],
+        &[(10, 0x4000), (15, 1)],
+        &[(23, 4), (24, 99), (25, 99), (27, 4)],
+        &[(33, 3), (34, 0), (36, 9), (37, 4)],
+        &[(33, 2), (36, 0)],
     ]);
 }
 
@@ -209,7 +226,7 @@ fn each_record_is_judged_in_turn() {
 fn a_record_of_another_step_is_well_formed() {
     let mut bench = three_steps();
     bench.machine.registers[7] = 7;
-    put_words(bench.record(0), 17 * 4, &[1, 7, 0xAAAA]);
+    put_words(bench.record(0), 19 * 4, &[1, 7, 0xAAAA]);
     let clock = bench.machine.clock;
     assert_eq!(bench.take_back(1), Answer::done(0, 1));
     assert_eq!((bench.reg(7), bench.machine.clock), (0xAAAA, clock - 1));

@@ -22,9 +22,9 @@ fn with_bytes(bytes: &[(usize, u32, u8)]) -> Bench {
     assert_eq!(bench.run_records(1, 0), Answer::done(1, 1));
     let record = bench.record(0);
     for &(number, count, byte) in bytes {
-        record[56] |= 1 << number;
-        record[60 + number] = byte;
-        put_words(record, 4 * (21 + 5 * number + 4), &[count]);
+        record[64] |= 1 << number;
+        record[68 + number] = byte;
+        put_words(record, 4 * (23 + 5 * number + 4), &[count]);
     }
     bench
 }
@@ -89,9 +89,9 @@ fn the_bit_of_a_printer_that_is_not_installed() {
     bench.machine.installed = 0xF7;
     bench.machine.printers[3] = Default::default();
     let record = bench.record(0);
-    put_words(record, 4 * (21 + 5 * 3), &[0; 5]);
-    record[56] = 8;
-    record[63] = 0x33;
+    put_words(record, 4 * (23 + 5 * 3), &[0; 5]);
+    record[64] = 8;
+    record[71] = 0x33;
     assert_eq!(taken_back(bench), paper_but_for(&[(12, 0x33)]));
 }
 

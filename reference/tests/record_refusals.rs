@@ -6,7 +6,7 @@ use common::asm::*;
 use common::dice::Dice;
 use common::states::random_bench_with_slots;
 use common::*;
-use reference::{Answer, IMAGE_BYTES};
+use reference::{Answer, IMAGE_BYTES, OLD_IMAGE_BYTES};
 
 /// A length, seldom one of the bad ones, and whether it passes its row.
 fn length(dice: &mut Dice, good: usize, bad: &[u32]) -> (usize, bool) {
@@ -30,7 +30,8 @@ fn take_back_answers_the_lowest_number() {
         let (ram, ram_fits) = length(&mut dice, 0x2000, &[0, 1, 4_095, 8_196, 16_781_312]);
         let (paper, paper_fits) = length(&mut dice, 32, &[4, 33, 65_544]);
         let (journal, journal_fits) = length(&mut dice, 4 * 256, &[1, 255, 1_025, 16_777_472]);
-        let (image_len, image_fits) = length(&mut dice, IMAGE_BYTES, &[0, 500, 502]);
+        let (image_len, image_fits) =
+            length(&mut dice, IMAGE_BYTES, &[0, OLD_IMAGE_BYTES as u32, 508, 510]);
         let mut steps = u64::from(dice.below(5));
         let count_fits = !dice.chance(6);
         if !count_fits {

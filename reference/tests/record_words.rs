@@ -7,7 +7,7 @@ use common::*;
 use reference::{Answer, Entry, Printer};
 
 /// A machine in which no two words of a record are alike by chance. PC is at
-/// RAM's start, printers 0 and 2 are installed, 2 is pending.
+/// RAM's start and in a slot, printers 0 and 2 are installed, 2 is pending.
 fn marked(instruction: u32) -> Bench {
     let mut bench = Bench::with(&[instruction]).register(4, 0x4444_0001).register(31, 0x3131_3131);
     let machine = &mut bench.machine;
@@ -20,6 +20,8 @@ fn marked(instruction: u32) -> Bench {
     machine.bad_vaddr = 0x8888_0008;
     machine.cause = 0x1000_4124;
     machine.epc = 0xEEEE_000B;
+    machine.slot_flag = 1;
+    machine.branch_address = 0xBBBB_000D;
     machine.timer = 0x7777_000C;
     machine.pending = 4;
     machine.clock = 0x0000_0001_FFFF_FFFF;
@@ -39,7 +41,7 @@ fn marked(instruction: u32) -> Bench {
 /// What the record of a step of `marked` holds where nothing else is told.
 fn marked_words() -> [u32; 64] {
     let mut words = [0; 64];
-    words[..14].copy_from_slice(&[
+    words[..16].copy_from_slice(&[
         0x0101_0001,
         0x0202_0002,
         0x2000_0000,
@@ -52,11 +54,13 @@ fn marked_words() -> [u32; 64] {
         0x1000_0000,
         0x1000_4124,
         0xEEEE_000B,
+        0x0000_0001,
+        0xBBBB_000D,
         0x7777_000C,
         0x0000_0004,
     ]);
-    words[21..26].copy_from_slice(&[3, 2, 0x5A5A_0041, 3, 1]);
-    words[31..36].copy_from_slice(&[4, 9, 0x6B6B_0042, 0, 4]);
+    words[23..28].copy_from_slice(&[3, 2, 0x5A5A_0041, 3, 1]);
+    words[33..38].copy_from_slice(&[4, 9, 0x6B6B_0042, 0, 4]);
     words
 }
 
@@ -98,13 +102,13 @@ fn nothing_else() {
 fn a_register() {
     let links = [bcond(16, 0, 4), bcond(17, 0, 4), jal(RAM + 0x40), jalr(31, 9)];
     for word in links {
-        holds(marked(word), RUNS, &[(17, 1), (18, 31), (19, 0x3131_3131)]);
+        holds(marked(word), RUNS, &[(19, 1), (20, 31), (21, 0x3131_3131)]);
     }
     // The last writes the value that is there: overwritten all the same.
     let writes =
         [addiu(4, 0, 5), mfc0(4, CAUSE), lw(4, 0x100, 9), special(16, 0, 0, 4), addiu(4, 4, 0)];
     for word in writes {
-        holds(marked(word), RUNS, &[(17, 1), (18, 4), (19, 0x4444_0001)]);
+        holds(marked(word), RUNS, &[(19, 1), (20, 4), (21, 0x4444_0001)]);
     }
     // Register 0 is never overwritten.
     for word in [NOP, addiu(0, 4, 5), lw(0, 0x100, 9), mfc0(0, CAUSE), jalr(0, 9)] {
@@ -115,24 +119,24 @@ fn a_register() {
 #[test]
 fn a_device_load() {
     for offset in [TIMER, printer(0), printer(2) + 8, 0x1C] {
-        holds(marked(lw(4, offset, 8)), RUNS, &[(17, 1), (18, 4), (19, 0x4444_0001)]);
+        holds(marked(lw(4, offset, 8)), RUNS, &[(19, 1), (20, 4), (21, 0x4444_0001)]);
     }
 }
 
 #[test]
 fn a_row_of_the_table() {
-    holds(marked(TLBWI), RUNS, &[(17, 2), (18, 5), (19, 0xF000_5040), (20, 0xE000_5200)]);
+    holds(marked(TLBWI), RUNS, &[(19, 2), (20, 5), (21, 0xF000_5040), (22, 0xE000_5200)]);
     // Random has moved on when the row is chosen; the record has it before.
-    holds(marked(TLBWR), RUNS, &[(17, 2), (18, 6), (19, 0xF000_6040), (20, 0xE000_6200)]);
+    holds(marked(TLBWR), RUNS, &[(19, 2), (20, 6), (21, 0xF000_6040), (22, 0xE000_6200)]);
     let mut first = marked(TLBWI);
     first.machine.index = 0;
     first.machine.tlb[0] = Entry::default();
-    holds(first, RUNS, &[(4, 0), (17, 2)]);
+    holds(first, RUNS, &[(4, 0), (19, 2)]);
 }
 
 #[test]
 fn a_word_of_ram() {
-    let whole = [(17, 3), (18, 0x100), (19, 0x4433_2211)];
+    let whole = [(19, 3), (20, 0x100), (21, 0x4433_2211)];
     holds(marked(sw(4, 0x100, 9)), RUNS, &whole);
     holds(marked(sw(4, 0x100, 9)).register(4, 0x4433_2211), RUNS, &whole);
     for (opcode, step) in [(0x28, 1), (0x29, 2), (0x2A, 1), (0x2E, 1)] {
@@ -140,10 +144,10 @@ fn a_word_of_ram() {
             holds(marked(immediate(opcode, 9, 4, place)), RUNS, &whole);
         }
     }
-    holds(marked(immediate(0x28, 9, 4, 0x1FFF)), RUNS, &[(17, 3), (18, 0x1FFC)]);
+    holds(marked(immediate(0x28, 9, 4, 0x1FFF)), RUNS, &[(19, 3), (20, 0x1FFC)]);
     // The first word of RAM is the instruction itself.
     let own = sw(4, 0, 9);
-    holds(marked(own), RUNS, &[(17, 3), (19, own)]);
+    holds(marked(own), RUNS, &[(19, 3), (21, own)]);
 }
 
 #[test]
@@ -169,23 +173,23 @@ fn an_interrupt() {
     // IP[2] goes on in the same step; the record has Cause and timer before.
     let mut passage = marked(sw(4, 0x100, 9)).status(KERNEL | 0x0401);
     passage.machine.timer = 0;
-    holds(passage, ENTERS, &[(9, KERNEL | 0x0401), (12, 0)]);
+    holds(passage, ENTERS, &[(9, KERNEL | 0x0401), (14, 0)]);
 }
 
 #[test]
 fn paper() {
     let mut bench = marked(sw(4, 0x100, 9));
     bench.machine.printers[0].ticks_left = 1;
-    let byte = [(14, 1), (15, 0x81), (24, 1)];
-    let word = [(17, 3), (18, 0x100), (19, 0x4433_2211)];
+    let byte = [(16, 1), (17, 0x81), (26, 1)];
+    let word = [(19, 3), (20, 0x100), (21, 0x4433_2211)];
     holds(bench.clone(), RUNS, &[&byte[..], &word].concat());
     let masked = (9, KERNEL | 0x4001);
     holds(bench.clone().status(masked.1), ENTERS, &[&byte[..], &[masked]].concat());
     // A full eighth, a RESET: no byte is overwritten.
     bench.machine.printers[0].paper_count = 4;
-    holds(bench.clone(), RUNS, &[&[(24, 1), (25, 4)], &word[..]].concat());
+    holds(bench.clone(), RUNS, &[&[(26, 1), (27, 4)], &word[..]].concat());
     bench.machine.printers[0] = Printer { command: 0, paper_count: 1, ..bench.machine.printers[0] };
-    holds(bench, RUNS, &[&[(22, 0), (24, 1)], &word[..]].concat());
+    holds(bench, RUNS, &[&[(24, 0), (26, 1)], &word[..]].concat());
 }
 
 #[test]
@@ -194,15 +198,15 @@ fn all_eight_printers_at_once() {
     bench.machine.installed = 255;
     bench.machine.pending = 0;
     bench.machine.cause = 0;
-    let mut others = vec![(10, 0), (13, 0), (14, 255), (15, 0x8D_8A_85_80), (16, 0x9E_99_96_91)];
+    let mut others = vec![(10, 0), (15, 0), (16, 255), (17, 0x8D_8A_85_80), (18, 0x9E_99_96_91)];
     for (number, printer) in bench.machine.printers.iter_mut().enumerate() {
         let data0 = 0x100 + number as u32;
         let paper_count = [0, 1, 2, 1, 1, 2, 1, 2][number];
         *printer = Printer { status: 3, command: 2, data0, ticks_left: 1, paper_count };
         let words = [3, 2, data0, 1, paper_count];
         others
-            .extend(words.iter().enumerate().map(|(word, &value)| (21 + 5 * number + word, value)));
+            .extend(words.iter().enumerate().map(|(word, &value)| (23 + 5 * number + word, value)));
     }
-    others.extend([(17, 2), (18, 5), (19, 0xF000_5040), (20, 0xE000_5200)]);
+    others.extend([(19, 2), (20, 5), (21, 0xF000_5040), (22, 0xE000_5200)]);
     holds(bench, RUNS, &others);
 }

@@ -52,8 +52,8 @@ struct Met {
 
 impl Met {
     fn count(&mut self, record: &[u8]) {
-        self.kinds[record[68] as usize] += 1;
-        self.paper += u32::from(record[56] != 0);
+        self.kinds[record[76] as usize] += 1;
+        self.paper += u32::from(record[64] != 0);
     }
 }
 

@@ -3,7 +3,7 @@
 mod common;
 
 use common::*;
-use reference::{keeps_rules, Machine, Printer, Status};
+use reference::{keeps_rules, Machine, Printer, Status, OLD_IMAGE_BYTES};
 
 const SLOTS: u32 = 4;
 
@@ -61,7 +61,8 @@ fn head_of_the_image() {
         }
     }
     assert!(keeps_rules(&good, 0, 0));
-    assert!(!keeps_rules(&good[..500], 0, 0));
+    assert!(!keeps_rules(&good[..good.len() - 1], 0, 0));
+    assert!(!keeps_rules(&good[..OLD_IMAGE_BYTES], 0, 0));
 }
 
 #[test]
@@ -151,6 +152,28 @@ fn reading_72_what_the_machine_never_makes() {
         }));
     }
     assert!(keeps(|machine| machine.pc = 1));
+}
+
+#[test]
+fn slot_flag_and_branch_address() {
+    for (flag, address, kept) in [
+        (0, 0, true),
+        (1, 0, true),
+        (1, 3, true),
+        (1, u32::MAX, true),
+        (0, 1, false),
+        (0, 1 << 31, false),
+        (2, 0, false),
+        (0x100, 4, false),
+        (1 << 31, 4, false),
+        (u32::MAX, u32::MAX, false),
+    ] {
+        let kept_now = keeps(|machine| {
+            machine.slot_flag = flag;
+            machine.branch_address = address;
+        });
+        assert_eq!(kept_now, kept, "{flag} {address}");
+    }
 }
 
 #[test]

@@ -13,7 +13,9 @@ enum {
     JOURNAL = 256 * SLOTS,
     REGISTER_9 = 5 + 4 * 8,
     ON_HAND = 5 + 4 * 122,
-    NEXT_SLOT = 5 + 4 * 123
+    NEXT_SLOT = 5 + 4 * 123,
+    SLOT_FLAG = 5 + 4 * 124,
+    BRANCH = 5 + 4 * 125
 };
 
 static const uint8_t program[ROM] = {
@@ -39,11 +41,12 @@ static void keep(struct lent *kept)
     memcpy(kept->journal, journal, JOURNAL);
 }
 
-/* All but on hand and next slot, the image's last two words, and the journal. */
+/* All but on hand and next slot, two words of the image, and the journal. */
 static int same_state(const struct lent *kept)
 {
-    return memcmp(kept->image, image, ON_HAND) == 0 && memcmp(kept->ram, ram, RAM) == 0
-        && memcmp(kept->paper, paper, PAPER) == 0;
+    return memcmp(kept->image, image, ON_HAND) == 0
+        && memcmp(kept->image + SLOT_FLAG, image + SLOT_FLAG, sizeof image - SLOT_FLAG) == 0
+        && memcmp(kept->ram, ram, RAM) == 0 && memcmp(kept->paper, paper, PAPER) == 0;
 }
 
 static int same_bytes(const struct lent *kept)
@@ -130,6 +133,27 @@ static void there_and_back(void)
     check(same_state(&start) && word(NEXT_SLOT) == 0, "to the reset");
 }
 
+/* Flag and address are taken back with the rest: a branch, and BREAK in its slot. */
+static void in_a_slot(void)
+{
+    static const uint8_t slot[8] = {0xFF, 0xFF, 0x00, 0x10, 0x0D, 0, 0, 0};
+    struct lent start, between;
+    uint64_t answer;
+
+    prepare();
+    keep(&start);
+    lavushmir_run(image, sizeof image, slot, 8, slot, 8, ram, RAM, paper, PAPER, journal, JOURNAL,
+                  1, 0);
+    keep(&between);
+    check(word(SLOT_FLAG) == 1 && word(BRANCH) == 0x1FC00000, "behind the branch");
+    answer = lavushmir_run(image, sizeof image, slot, 8, slot, 8, ram, RAM, paper, PAPER, journal,
+                           JOURNAL, 1, 1);
+    check(lavushmir_reason(answer) == LAVUSHMIR_EXCEPTION, "BREAK in the slot");
+    check(word(SLOT_FLAG) == 0 && word(BRANCH) == 0, "an entry is no branch");
+    check(back(1) == (uint64_t)1 << 32 && same_state(&between), "back to the slot");
+    check(back(1) == (uint64_t)1 << 32 && same_state(&start), "and to the branch");
+}
+
 static void refusals(void)
 {
     struct lent kept;
@@ -139,10 +163,10 @@ static void refusals(void)
     run(3);
     *oldest = 1;
     keep(&kept);
-    refuses(take_back(500, RAM - 1, 4, 100, 9), LAVUSHMIR_BAD_RAM, &kept, "1 before all others");
-    refuses(take_back(500, RAM, 4, 100, 9), LAVUSHMIR_BAD_PAPER, &kept, "3 before 4 to 8");
-    refuses(take_back(500, RAM, 8, 100, 9), LAVUSHMIR_BAD_JOURNAL, &kept, "4 before 5 to 8");
-    refuses(take_back(500, RAM, 8, JOURNAL, 9), LAVUSHMIR_BAD_IMAGE, &kept, "5 before 7 and 8");
+    refuses(take_back(508, RAM - 1, 4, 100, 9), LAVUSHMIR_BAD_RAM, &kept, "1 before all others");
+    refuses(take_back(508, RAM, 4, 100, 9), LAVUSHMIR_BAD_PAPER, &kept, "3 before 4 to 8");
+    refuses(take_back(508, RAM, 8, 100, 9), LAVUSHMIR_BAD_JOURNAL, &kept, "4 before 5 to 8");
+    refuses(take_back(508, RAM, 8, JOURNAL, 9), LAVUSHMIR_BAD_IMAGE, &kept, "5 before 7 and 8");
     refuses(back(4), LAVUSHMIR_NOT_ON_HAND, &kept, "7 before 8");
     refuses(back(((uint64_t)1 << 32) + 1), LAVUSHMIR_NOT_ON_HAND, &kept, "2^32 + 1 steps");
     refuses(back(3), LAVUSHMIR_BAD_RECORD, &kept, "only the last of three is bad");
@@ -160,6 +184,7 @@ static void refusals(void)
 int main(void)
 {
     there_and_back();
+    in_a_slot();
     refusals();
     return checked("take-back");
 }

@@ -87,6 +87,7 @@ static void words(void)
     check(image[4] == LAVUSHMIR_IMAGE_VERSION, "version");
     check(LAVUSHMIR_WORD_PRINTER + 5 * LAVUSHMIR_PRINTERS == LAVUSHMIR_WORD_PENDING,
           "the pending map stands behind the printers");
+    check(LAVUSHMIR_WORD_BRANCH + 1 == LAVUSHMIR_IMAGE_WORDS, "the branch is the last word");
     check(LAVUSHMIR_WORD_TLB + 2 * LAVUSHMIR_TLB_ENTRIES == LAVUSHMIR_WORD_CLOCK_HIGH,
           "the clock stands behind the table");
     check(5 + 4 * LAVUSHMIR_IMAGE_WORDS == LAVUSHMIR_IMAGE_BYTES, "length");
@@ -108,6 +109,27 @@ static void words_after_a_step(void)
     check(lavushmir_image_word(image, LAVUSHMIR_WORD_CLOCK_HIGH) == 0, "clock high");
     check(lavushmir_image_word(image, LAVUSHMIR_WORD_ON_HAND) == 1, "on hand");
     check(lavushmir_image_word(image, LAVUSHMIR_WORD_NEXT_SLOT) == 1, "next slot");
+}
+
+/* J to itself with BREAK in its slot: the image says that the next step is a slot,
+   and EPC goes back to the branch. */
+static void words_in_a_slot(void)
+{
+    static const uint8_t slot[8] = {0, 0, 0xF0, 0x0B, 0x0D, 0, 0, 0};
+    unsigned steps;
+    check(reset_number(1, 1) == LAVUSHMIR_DONE, "a reset for a slot");
+    memcpy(other_rom, slot, sizeof slot);
+    for (steps = 1; steps <= 2; steps++) {
+        uint64_t answer = lavushmir_run(image, sizeof image, rom, 4, other_rom, sizeof slot, ram,
+                                        LAVUSHMIR_FRAME_BYTES, paper, 0, journal, 0, 1, 0);
+        uint32_t in_slot = steps == 1, branch = in_slot ? LAVUSHMIR_BOOTSTRAP_ROM_ADDRESS : 0;
+        check(lavushmir_steps(answer) == 1, "a step");
+        check(lavushmir_image_word(image, LAVUSHMIR_WORD_SLOT_FLAG) == in_slot, "slot flag");
+        check(lavushmir_image_word(image, LAVUSHMIR_WORD_BRANCH) == branch, "branch");
+    }
+    check(lavushmir_image_word(image, LAVUSHMIR_WORD_EPC) == LAVUSHMIR_BOOTSTRAP_ROM_ADDRESS,
+          "EPC of a slot");
+    check(lavushmir_image_word(image, LAVUSHMIR_WORD_CAUSE) == (0x80000000u | 9 * 4), "BD");
 }
 
 static void put_word(unsigned place, uint32_t value)
@@ -161,6 +183,7 @@ int main(void)
     limits();
     words();
     words_after_a_step();
+    words_in_a_slot();
     two_matches();
     texts();
     return checked("the header");

@@ -69,7 +69,7 @@ int main(void)
     const uint64_t past = UINT64_C(1) << 32;
     uint8_t expected[LAVUSHMIR_IMAGE_BYTES];
 
-    check(sizeof reset_image == LAVUSHMIR_IMAGE_BYTES, "501 bytes are written out");
+    check(sizeof reset_image == LAVUSHMIR_IMAGE_BYTES, "509 bytes are written out");
     unpacks();
 
     resets(0x12, 0x3456, 0xA5, reset_image, "reset with 0x12, 0x3456, 0xA5");
@@ -91,18 +91,19 @@ int main(void)
     resets(255, 65535, 255, expected, "reset with the highest parameters");
 
     refuses(0, 1, 1, 0, LAVUSHMIR_BAD_IMAGE, "no image bytes");
-    refuses(500, 1, 1, 0, LAVUSHMIR_BAD_IMAGE, "500 image bytes");
-    refuses(502, 1, 1, 0, LAVUSHMIR_BAD_IMAGE, "502 image bytes");
-    refuses(500, 0, 0, 256, LAVUSHMIR_BAD_IMAGE, "5 comes before 6");
-    refuses(501, 0, 1, 0, LAVUSHMIR_BAD_PARAMETER, "time scale 0");
-    refuses(501, 256, 1, 0, LAVUSHMIR_BAD_PARAMETER, "time scale 256");
-    refuses(501, past + 1, 1, 0, LAVUSHMIR_BAD_PARAMETER, "time scale 2^32 + 1");
-    refuses(501, 1, 0, 0, LAVUSHMIR_BAD_PARAMETER, "printer delay 0");
-    refuses(501, 1, 65536, 0, LAVUSHMIR_BAD_PARAMETER, "printer delay 65,536");
-    refuses(501, 1, past + 1, 0, LAVUSHMIR_BAD_PARAMETER, "printer delay 2^32 + 1");
-    refuses(501, 1, 1, 256, LAVUSHMIR_BAD_PARAMETER, "installed map 256");
-    refuses(501, 1, 1, past, LAVUSHMIR_BAD_PARAMETER, "installed map 2^32");
-    refuses(501, UINT64_MAX, UINT64_MAX, UINT64_MAX, LAVUSHMIR_BAD_PARAMETER, "all ones");
+    refuses(501, 1, 1, 0, LAVUSHMIR_BAD_IMAGE, "501 image bytes, as in version 1");
+    refuses(508, 1, 1, 0, LAVUSHMIR_BAD_IMAGE, "508 image bytes");
+    refuses(510, 1, 1, 0, LAVUSHMIR_BAD_IMAGE, "510 image bytes");
+    refuses(508, 0, 0, 256, LAVUSHMIR_BAD_IMAGE, "5 comes before 6");
+    refuses(509, 0, 1, 0, LAVUSHMIR_BAD_PARAMETER, "time scale 0");
+    refuses(509, 256, 1, 0, LAVUSHMIR_BAD_PARAMETER, "time scale 256");
+    refuses(509, past + 1, 1, 0, LAVUSHMIR_BAD_PARAMETER, "time scale 2^32 + 1");
+    refuses(509, 1, 0, 0, LAVUSHMIR_BAD_PARAMETER, "printer delay 0");
+    refuses(509, 1, 65536, 0, LAVUSHMIR_BAD_PARAMETER, "printer delay 65,536");
+    refuses(509, 1, past + 1, 0, LAVUSHMIR_BAD_PARAMETER, "printer delay 2^32 + 1");
+    refuses(509, 1, 1, 256, LAVUSHMIR_BAD_PARAMETER, "installed map 256");
+    refuses(509, 1, 1, past, LAVUSHMIR_BAD_PARAMETER, "installed map 2^32");
+    refuses(509, UINT64_MAX, UINT64_MAX, UINT64_MAX, LAVUSHMIR_BAD_PARAMETER, "all ones");
 
     return checked("reset");
 }

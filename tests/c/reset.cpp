@@ -33,7 +33,7 @@ static void refuses(size_t bytes, uint64_t time_scale, unsigned number, const ch
 
 int main()
 {
-    static_assert(sizeof reset_image == LAVUSHMIR_IMAGE_BYTES, "501 bytes are written out");
+    static_assert(sizeof reset_image == LAVUSHMIR_IMAGE_BYTES, "509 bytes are written out");
 
     std::vector<uint8_t> image(LAVUSHMIR_IMAGE_BYTES, 0xB7);
     const uint64_t answer = lavushmir_reset(image.data(), image.size(), 0x12, 0x3456, 0xA5);
@@ -43,8 +43,8 @@ int main()
     check(lavushmir_steps(answer) == 0, "steps of a reset");
     check(std::equal(image.begin(), image.end(), reset_image), "image of a reset");
 
-    refuses(LAVUSHMIR_IMAGE_BYTES - 1, 0x12, LAVUSHMIR_BAD_IMAGE, "500 image bytes");
-    refuses(LAVUSHMIR_IMAGE_BYTES + 1, 0, LAVUSHMIR_BAD_IMAGE, "502 image bytes, time scale 0");
+    refuses(LAVUSHMIR_IMAGE_BYTES - 1, 0x12, LAVUSHMIR_BAD_IMAGE, "508 image bytes");
+    refuses(LAVUSHMIR_IMAGE_BYTES + 1, 0, LAVUSHMIR_BAD_IMAGE, "510 image bytes, time scale 0");
     refuses(LAVUSHMIR_IMAGE_BYTES, 0, LAVUSHMIR_BAD_PARAMETER, "time scale 0");
 
     if (failures != 0) {

@@ -1,6 +1,6 @@
 /*
  * The image that reset writes for time scale 0x12, printer delay 0x3456 and
- * installed map 0xA5, byte by byte from document 01.
+ * installed map 0xA5, byte by byte from documents 01 and 02 (L2).
  */
 #ifndef RESET_IMAGE_H
 #define RESET_IMAGE_H
@@ -11,8 +11,8 @@
 #define ZEROS_4 0, 0, 0, 0, 0, 0, 0, 0, 0, 0, 0, 0, 0, 0, 0, 0
 
 static const uint8_t reset_image[] = {
-    0x00, 0x00, 0x01, 0xF1, /* length word: 497 */
-    0x01,                   /* version */
+    0x00, 0x00, 0x01, 0xF9, /* length word: 505 */
+    0x02,                   /* version */
     ZEROS_4,                /* registers 1 to 4 */
     ZEROS_4,                /* 5 to 8 */
     ZEROS_4,                /* 9 to 12 */
@@ -60,7 +60,9 @@ static const uint8_t reset_image[] = {
     0x00, 0x00, 0x00, 0x01, ZEROS_4, /* printer 7, installed */
     0x00, 0x00, 0x00, 0x00, /* pending map */
     0x00, 0x00, 0x00, 0x00, /* steps on hand */
-    0x00, 0x00, 0x00, 0x00  /* next slot */
+    0x00, 0x00, 0x00, 0x00, /* next slot */
+    0x00, 0x00, 0x00, 0x00, /* slot flag */
+    0x00, 0x00, 0x00, 0x00  /* branch address */
 };
 
 #endif

@@ -65,16 +65,16 @@ int main(void)
 
     prepare();
     memcpy(before, image, sizeof image);
-    refuses(run(500, 6, RAM - 1, 4, 100, 1000001), LAVUSHMIR_BAD_RAM, "1 before all others");
-    refuses(run(500, 6, RAM, 4, 100, 1000001), LAVUSHMIR_BAD_ROM, "2 before 3 to 6");
-    refuses(run(500, ROM, RAM, 4, 100, 1000001), LAVUSHMIR_BAD_PAPER, "3 before 4 to 6");
-    refuses(run(500, ROM, RAM, 8, 100, 1000001), LAVUSHMIR_BAD_JOURNAL, "4 before 5 and 6");
-    refuses(run(500, ROM, RAM, 8, 256, 1000001), LAVUSHMIR_BAD_IMAGE, "5 before 6");
-    refuses(run(501, ROM, RAM, 8, 256, 1000001), LAVUSHMIR_BAD_PARAMETER, "6");
-    refuses(run(501, ROM, RAM, 8, 256, (uint64_t)1 << 32), LAVUSHMIR_BAD_PARAMETER, "budget 2^32");
+    refuses(run(508, 6, RAM - 1, 4, 100, 1000001), LAVUSHMIR_BAD_RAM, "1 before all others");
+    refuses(run(508, 6, RAM, 4, 100, 1000001), LAVUSHMIR_BAD_ROM, "2 before 3 to 6");
+    refuses(run(508, ROM, RAM, 4, 100, 1000001), LAVUSHMIR_BAD_PAPER, "3 before 4 to 6");
+    refuses(run(508, ROM, RAM, 8, 100, 1000001), LAVUSHMIR_BAD_JOURNAL, "4 before 5 and 6");
+    refuses(run(508, ROM, RAM, 8, 256, 1000001), LAVUSHMIR_BAD_IMAGE, "5 before 6");
+    refuses(run(509, ROM, RAM, 8, 256, 1000001), LAVUSHMIR_BAD_PARAMETER, "6");
+    refuses(run(509, ROM, RAM, 8, 256, (uint64_t)1 << 32), LAVUSHMIR_BAD_PARAMETER, "budget 2^32");
     check(memcmp(before, image, sizeof image) == 0, "refusals leave the image");
     image[0] ^= 1;
-    refuses(run(501, ROM, RAM, 8, 256, 1), LAVUSHMIR_BAD_IMAGE, "a damaged image");
+    refuses(run(509, ROM, RAM, 8, 256, 1), LAVUSHMIR_BAD_IMAGE, "a damaged image");
 
     return checked("run");
 }

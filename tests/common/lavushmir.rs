@@ -37,6 +37,19 @@ extern "C" {
         journal_bytes: usize,
         steps: u64,
     ) -> u64;
+
+    // Only tests/slots converts.
+    #[allow(dead_code)]
+    fn lavushmir_convert(
+        old: *const u8,
+        old_bytes: usize,
+        image: *mut u8,
+        image_bytes: usize,
+        paper: *const u8,
+        paper_bytes: usize,
+        journal: *const u8,
+        journal_bytes: usize,
+    ) -> u64;
 }
 
 pub fn reset(image: &mut [u8], time_scale: u64, printer_delay: u64, installed: u64) -> u64 {
@@ -98,6 +111,23 @@ pub fn take_back(
             journal.as_ptr(),
             journal.len(),
             steps,
+        )
+    }
+}
+
+#[allow(dead_code)]
+pub fn convert(old: &[u8], image: &mut [u8], paper: &[u8], journal: &[u8]) -> u64 {
+    // SAFETY: as in `run`; only the image is written.
+    unsafe {
+        lavushmir_convert(
+            old.as_ptr(),
+            old.len(),
+            image.as_mut_ptr(),
+            image.len(),
+            paper.as_ptr(),
+            paper.len(),
+            journal.as_ptr(),
+            journal.len(),
         )
     }
 }

@@ -19,9 +19,10 @@ import sys
 # What the public calls and the theorems over them state. Everything that a reader must believe is reached from here.
 STATEMENTS = [
     "runLeaves", "backLeaves", "resetAnswer", "resetImage", "romAnswer", "windowOf", "packedOf",
-    "ResetIs", "buffersOf", "buffersBack", "PackedResetIs", "PackedIs", "Unchanged",
+    "ResetIs", "ConvertIs", "buffersOf", "buffersBack", "PackedResetIs", "PackedConvertIs", "PackedIs", "Unchanged",
     "Booted", "demand3.calledAll", "TakesBack", "marked",
     "Claim", "EachClaim", "RunClaim",
+    "SlotTold", "KeepsBranch", "readsOf", "Agree",
     "lastChangeOf", "newestAtOf", "oldestAtOf", "Tells", "pcsAgo", "agoIn",
     "isa.encodeOf", "isa.Proper",
     "commandOf", "text.numberOf", "text.Laid", "text.decimalOf", "text.groupedOf", "text.signedOf", "text.hexOf",

@@ -3,6 +3,7 @@
  *   drive load DIR               drive hold DIR     (until stdin ends)
  *   drive save DIR SEED [HOW]    drive state SEED   (what a load must print)
  *   drive check DIR SEED         (load, save SEED, load; prints both states)
+ *   drive before DIR             (the save before the present one, without ROMs)
  *   drive sum FILE ...           (what cksum FILE ... prints)
  *   drive wrong DIR              (saves that must be refused)
  * HOW: n = save without a load, 2 = when the save fails, save again in the
@@ -40,7 +41,7 @@ static void make_state(unsigned long seed)
     int big = getenv("DRIVE_BIG") != NULL;
     fill(&roms[0], 1001, 4096);
     fill(&roms[1], 1002, 1024);
-    fill(&files[IMAGE], seed, 501);
+    fill(&files[IMAGE], seed, 509);
     fill(&files[RAM], seed + 1, big ? 16 * MIB : 4096);
     fill(&files[PAPER], seed + 2, big ? 65536 : seed % 3 * 50); /* also empty */
     fill(&files[JOURNAL], seed + 3, big ? 16 * MIB : seed % 5 * 300);
@@ -129,6 +130,9 @@ int main(int argc, char **argv)
         r = run_save(&s, argc > 4 ? argv[4] : "", seed);
     } else if (strcmp(what, "restore") == 0) {
         r = sf_restore(&s, files, FILES);
+    } else if (strcmp(what, "before") == 0) {
+        r = sf_load_before(&s, files, FILES);
+        show(files, r == SF_OK ? FILES : 0);
     } else if (strcmp(what, "wrong") == 0) {
         r = run_wrong(&s);
     } else if (strcmp(what, "hold") == 0) {

@@ -53,10 +53,13 @@ def golden():
         assert ok("load", s, exe=exe) == STATE[1]
         one_line(run("create", s, 1, exe=exe), 3, "there already")
         one_line(run("restore", s, exe=exe), 3, "no save before")
+        one_line(run("before", s, exe=exe), 3, "no save before")
         ok("save", s, 2, exe=exe)
         ok("save", s, 4, exe=exe)
         assert ok("load", s, exe=exe) == STATE[4] and sorted(os.listdir(s)) == [
             "2", "3", "bootstrap.rom", "current", "execution.rom", "sums"]
+        before = tree(s)  # reading the save before writes nothing
+        assert ok("before", s, exe=exe) == "".join(STATE[2].splitlines(True)[2:]) and tree(s) == before
         for d in (s + "/3", s + "/2", s):  # a person with cksum(1) finds the same
             names = [l.split()[2] for l in open(d + "/sums")]
             assert subprocess.check_output(["cksum", *names], cwd=d) == get(d + "/sums")

@@ -38,12 +38,13 @@ expect() {
 rom bootstrap 0x1FC00000
 rom execution 0
 for source in sort crc sha sieve format matrix recurse import pack wide narrow divide limits rare; do
-    # One level without filled slots, so that interrupts meet both kinds of code.
-    for level in -O0 "-O1 -fno-delayed-branch" -O2 -Os; do
-        name=$source.$(echo "$level" | cut -c 2-3)
-        build "$name" "$source" emit_buffer "$level"
-        expect "$name"
+    for level in O0 O1 O2 Os; do
+        build "$source.$level" "$source" emit_buffer "-$level"
+        expect "$source.$level"
     done
+    # Once more with empty slots, so that interrupts meet both kinds of code.
+    build "$source.O1.empty" "$source" emit_buffer "-O1 -fno-delayed-branch"
+    expect "$source.O1.empty"
 done
 for ending in 1 2 3 4 5 6 7; do
     build "ends$ending.O1" ends emit_buffer "-O1 -DENDING=$ending"
@@ -57,3 +58,12 @@ for source in import recurse narrow; do
         cp "$folder/$name.status" "$folder/$name.printer.status"
     done
 done
+
+# The programs of the sweep. Branches in slots are nothing for qemu.
+mkdir "$folder/sweep"
+assemble() {
+    $cc $2 -T "$here/machine/program.ld" "$here/machine/start.S" "$here/machine/branches.S" -o "$folder/sweep/$1.elf"
+}
+assemble branches ""
+assemble nested -DBRANCH_IN_SLOT
+expect sweep/branches

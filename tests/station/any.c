@@ -3,6 +3,7 @@
  * line or anywhere, the lengths asked for fit or do not. Every buffer that is
  * lent is touched at both ends, and every event must be one that station.h
  * allows after what was wanted. ANY_LOG gets a line for each event. */
+#include "lavushmir.h"
 #include "station.h"
 
 #include <stdio.h>
@@ -118,4 +119,22 @@ uint64_t station_compare_turn(uint64_t *session, uint8_t *out, size_t out_bytes,
             sum += all[i][0] + all[i][counts[i] - 1];
     out[0] = (uint8_t)sum;
     return answer(session, 0, out_bytes);
+}
+
+/* Done or refused, by dice too. The image is written either way: a C side that
+ * saves what was refused would be seen to. */
+uint64_t lavushmir_convert(const uint8_t *old, size_t old_bytes, uint8_t *image, size_t image_bytes,
+                           const uint8_t *paper, size_t paper_bytes, const uint8_t *journal, size_t journal_bytes)
+{
+    static const uint64_t numbers[] = {LAVUSHMIR_DONE, LAVUSHMIR_BAD_PAPER, LAVUSHMIR_BAD_JOURNAL, LAVUSHMIR_BAD_IMAGE};
+    const uint8_t *all[] = {old, paper, journal};
+    size_t counts[] = {old_bytes, paper_bytes, journal_bytes};
+    unsigned sum = 0;
+    for (int i = 0; i < 3; i++)
+        if (counts[i] > 0)
+            sum += all[i][0] + all[i][counts[i] - 1];
+    if (image_bytes != LAVUSHMIR_IMAGE_BYTES)
+        abort();
+    image[0] = image[image_bytes - 1] = (uint8_t)sum;
+    return numbers[dice(4)];
 }

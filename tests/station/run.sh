@@ -1,12 +1,12 @@
 #!/bin/sh
 # The program lavushmir from end to end: the exit status of each kind of end,
-# scripts, signals, a terminal, the lock, damaged stations, and a fault or a kill
-# at every system call of a save. Under three minutes.
+# scripts, signals, a terminal, the lock, damaged stations, a fault or a kill at
+# every system call of a save, and stations of the version before.
 #
 #     tests/station/run.sh ARCHIVE [PART ..]
 #
 # ARCHIVE is the x86-64 archive (rt staticlib station). PART: answers, statuses,
-# sessions, damages, faults. Needs gcc and python3; on Arm gcc-x86-64-linux-gnu,
+# sessions, damages, faults, conversions. Needs gcc and python3; on Arm gcc-x86-64-linux-gnu,
 # qemu-user and libc6:amd64.
 #
 # Two builds are tried, one of them with the compiler's checks for undefined

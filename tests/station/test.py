@@ -4,14 +4,14 @@ with the C side) and shim.so. Only the standard library."""
 import os, signal, sys, time
 
 sys.path.insert(1, os.path.join(os.path.dirname(os.path.abspath(__file__)), "../files"))
-import answers, damages, faults, program, sessions, stations, statuses
+import answers, conversions, damages, faults, program, sessions, stations, statuses
 
 if __name__ == "__main__":
     for number in (signal.SIGINT, signal.SIGHUP):  # also where the tests were started without them
         signal.signal(number, signal.SIG_DFL)
     os.chdir(program.B)
     stations.make_roms()
-    for part in (answers, statuses, sessions, damages, faults):
+    for part in (answers, statuses, sessions, damages, faults, conversions):
         if len(sys.argv) > 2 and part.__name__ not in sys.argv:  # for work on one part
             continue
         began = time.time()

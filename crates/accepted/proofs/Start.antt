@@ -122,13 +122,13 @@ module _ (image : List ℕ) (paper journal : ℕ) (good : goodImage image paper 
   abbrev m : Machine
   m = machineOf image
 
-  image-long : length image ≡ 501
-  image-long = eqb-true (length image) 501 (both (eqb (length image) 501) (keepsRules image paper journal) good .0)
+  image-long : length image ≡ 509
+  image-long = eqb-true (length image) 509 (both (eqb (length image) 509) (keepsRules image paper journal) good .0)
 
   rules : (stateKeeps m paper ≡ true) × (journalKeeps (m .journal) (journal / 256) ≡ true)
   unfolding keepsRules machineKeeps
   rules =
-      let h = both (eqb (length image) 501) (keepsRules image paper journal) good in
+      let h = both (eqb (length image) 509) (keepsRules image paper journal) good in
       let k = both (headerKeeps image) (machineKeeps m paper journal) (h .1) in
       both (stateKeeps m paper) (journalKeeps (m .journal) (journal / 256)) (k .1)
 

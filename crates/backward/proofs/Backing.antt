@@ -66,18 +66,18 @@ fits-back b passed keeps is =
 -- ---- the image
 
 module _ (b : Buffers) where
-  pub bad-length : (length (b .image) ≡ 501 → ⊥) → ruleTest b ≡ Failed Image
+  pub bad-length : (length (b .image) ≡ 509 → ⊥) → ruleTest b ≡ Failed Image
   unfolding ruleTest
-  bad-length h = rw (ne-eqb (length (b .image)) 501 h)
+  bad-length h = rw (ne-eqb (length (b .image)) 509 h)
 
-  module _ (long : length (b .image) ≡ 501) where
+  module _ (long : length (b .image) ≡ 509) where
     pub bad-rules : keepsRules (b .image) (length (b .beside .paper)) (length (b .beside .journal)) ≡ false → ruleTest b ≡ Failed Image
     unfolding ruleTest
-    bad-rules e = rw (eq-eqb (length (b .image)) 501 long, e)
+    bad-rules e = rw (eq-eqb (length (b .image)) 509 long, e)
 
     pub all-passed : keepsRules (b .image) (length (b .beside .paper)) (length (b .beside .journal)) ≡ true → ruleTest b ≡ Passed
     unfolding ruleTest
-    all-passed e = rw (eq-eqb (length (b .image)) 501 long, e)
+    all-passed e = rw (eq-eqb (length (b .image)) 509 long, e)
 
 -- ---- taking back
 

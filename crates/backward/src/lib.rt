@@ -38,7 +38,7 @@ fn buffers_test(ram: usize, paper: usize, journal: usize) -> Test
 
 // What is answered; the image is written only where steps were taken back.
 fn told(answer: back::Answer, after: Machine, image: &mut [u8], steps: u64) -> Answer
-    requires { ⌜ length (now image) ≡ 501 ⌝ }
+    requires { ⌜ length (now image) ≡ 509 ⌝ }
     requires { ⌜ (Rattle.back.specs.Back.howOf answer ≡ done → steps < 2 ^ 32) ⌝ }
     ensures { λ r. ⌜ ToldIs answer after (now (image .entry)) steps r (now (image .exit)) ⌝ }
 {
@@ -62,7 +62,7 @@ fn tried(
     steps: u64,
 ) -> Answer
     requires { ⌜ machine ≡ machineOf (now image) ⌝ }
-    requires { ⌜ length (now image) ≡ 501 ⌝ }
+    requires { ⌜ length (now image) ≡ 509 ⌝ }
     requires { ⌜ Fits (besideBack (now ram) (now paper) (now journal)) machine ⌝ }
     ensures { λ r. ⌜
         leftOf r (buffersBack (now (image .exit)) (now (ram .exit)) (now (paper .exit)) (now (journal .entry)))

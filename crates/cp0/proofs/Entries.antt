@@ -1,7 +1,7 @@
 -- What holds of CP0 after exception entry.
-use Prim.Native.Nat.{ℕ, _/_, _%_, _^_, _<_}
+use Prim.Native.Nat.{ℕ, _+_, _*_, _/_, _%_, _^_, _<_}
 use mathlib.Core.Path.{_≡_, refl, _∙_}
-use mathlib.Core.Bool.{true, false}
+use mathlib.Core.Bool.{Bool, true, false}
 use native.Mathlib.Nat.{mod-lt}
 use native.Mathlib.Omega.{arith}
 use lib.Dec.{eqb, lit<}
@@ -18,7 +18,7 @@ use Rattle.cp0.specs.Privilege.{modeOf}
 use Rattle.cp0.specs.Interrupt.{ip, im, interruptsOf}
 use Rattle.cp0.specs.Stack.{pushedStack}
 use Rattle.cp0.specs.Word.{modesOf, middle, vmOf, pushedOf}
-use Rattle.cp0.specs.Entry.{pageMask, entryMask, excCode, ceOf, fieldsOf, causeOf, entryHiOf, enteredOf}
+use Rattle.cp0.specs.Entry.{pageMask, entryMask, excCode, bdOf, ceOf, fieldsOf, causeOf, entryHiOf, enteredOf}
 use Rattle.cp0.specs.Written.{statusMask}
 use Rattle.cp0.proofs.StatusBits.{pushed-within}
 use Rattle.cp0.proofs.Parts.{modes-of-word, middle-of-word, vm-of-word}
@@ -26,9 +26,21 @@ use Rattle.cp0.proofs.Parts.{modes-of-word, middle-of-word, vm-of-word}
 bit-off : (k word : ℕ) → word / 2 ^ k % 2 ≡ 0 → bit k word ≡ false
 bit-off k word none = rw none
 
-module _ (e : Exception) (pc : ℕ) (c : Cp0) where
+bit-on : (k word : ℕ) → word / 2 ^ k % 2 ≡ 1 → bit k word ≡ true
+bit-on k word one = rw one
+
+-- BD is above all that stands beside it
+bd-bit : (slot : Bool) (word rest : ℕ) → rest < 2 ^ 31 → word / 2 ^ 31 % 2 ^ 1 ≡ (bdOf slot + rest) / 2 ^ 31 % 2 ^ 1 → bit 31 word ≡ slot
+bd-bit true word rest small same = bit-on 31 word (omega arith)
+bd-bit false word rest small same = bit-off 31 word (omega arith)
+
+below-bd : (slot : Bool) (rest : ℕ) → rest < 2 ^ 31 → (bdOf slot + rest) % 2 ^ 31 ≡ rest
+below-bd true rest small = omega arith
+below-bd false rest small = omega arith
+
+module _ (e : Exception) (slot : Bool) (epc : ℕ) (c : Cp0) where
   abbrev after : Cp0
-  after = enteredOf e pc c
+  after = enteredOf e slot epc c
 
   pub others-kept : (after .index ≡ c .index) × (after .random ≡ c .random) × (after .«entry_lo» ≡ c .«entry_lo»)
   unfolding enteredOf
@@ -37,25 +49,35 @@ module _ (e : Exception) (pc : ℕ) (c : Cp0) where
   -- ---- Cause
   pub ip-kept : ip (after .cause) ≡ ip (c .cause)
   unfolding enteredOf causeOf overlaidOf
-  ip-kept = field-kept 32 entryMask (c .cause) (fieldsOf e) 8 8 refl refl
+  ip-kept = field-kept 32 entryMask (c .cause) (fieldsOf e slot) 8 8 refl refl
 
-  pub code-told : e .code < 2 ^ 5 → excCode (after .cause) ≡ e .code
-  unfolding enteredOf causeOf overlaidOf
-  code-told small = field-taken 32 entryMask (c .cause) (fieldsOf e) 2 5 refl refl ∙ omega arith
+  abbrev rest : ℕ
+  rest = ceOf e * 2 ^ 28 + e .code % 2 ^ 5 * 2 ^ 2
 
   ce-small : ceOf e < 2 ^ 2
   ce-small = picked (λ x. x < 2 ^ 2) (eqb (e .code) 11) _ _ (λ on. mod-lt (e .coprocessor) (omega arith)) (λ off. omega arith)
 
+  rest-small : rest < 2 ^ 31
+  rest-small = let small = ce-small in omega arith
+
+  pub code-told : e .code < 2 ^ 5 → excCode (after .cause) ≡ e .code
+  unfolding enteredOf causeOf overlaidOf
+  code-told small =
+      let few = ce-small in
+      let low = below-bd slot rest rest-small in
+      field-taken 32 entryMask (c .cause) (fieldsOf e slot) 2 5 refl refl ∙ omega arith
+
   pub ce-told : after .cause / 2 ^ 28 % 2 ^ 2 ≡ ceOf e
   unfolding enteredOf causeOf overlaidOf
-  ce-told = let small = ce-small in field-taken 32 entryMask (c .cause) (fieldsOf e) 28 2 refl refl ∙ omega arith
-
-  pub bd-off : bit 31 (after .cause) ≡ false
-  unfolding enteredOf causeOf overlaidOf
-  bd-off =
+  ce-told =
       let small = ce-small in
-      let new : after .cause / 2 ^ 31 % 2 ^ 1 ≡ fieldsOf e / 2 ^ 31 % 2 ^ 1 = field-taken 32 entryMask (c .cause) (fieldsOf e) 31 1 refl refl in
-      bit-off 31 (after .cause) (omega arith)
+      let low = below-bd slot rest rest-small in
+      field-taken 32 entryMask (c .cause) (fieldsOf e slot) 28 2 refl refl ∙ omega arith
+
+  -- document 02, L2: BD is 1 exactly in a slot
+  pub bd-told : bit 31 (after .cause) ≡ slot
+  unfolding enteredOf causeOf overlaidOf
+  bd-told = bd-bit slot (after .cause) rest rest-small (field-taken 32 entryMask (c .cause) (fieldsOf e slot) 31 1 refl refl)
 
   -- ---- Status
   modes : modesOf (after .status) ≡ pushedStack 4 (modesOf (c .status))
@@ -106,7 +128,7 @@ module _ (e : Exception) (pc : ℕ) (c : Cp0) where
 
   pub cause-within : (m : ℕ) → BitsIn 32 m (c .cause) → BitsIn 32 m entryMask → BitsIn 32 m (after .cause)
   unfolding enteredOf causeOf overlaidOf
-  cause-within m within fields = overlaid-within 32 entryMask (c .cause) (fieldsOf e) (lit< tt) m within fields
+  cause-within m within fields = overlaid-within 32 entryMask (c .cause) (fieldsOf e slot) (lit< tt) m within fields
 
   pub entry-hi-within : (m : ℕ) → BitsIn 32 m (c .«entry_hi») → BitsIn 32 m pageMask → BitsIn 32 m (after .«entry_hi»)
   unfolding enteredOf entryHiOf overlaidOf

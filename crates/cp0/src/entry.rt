@@ -1,7 +1,8 @@
 // Exception entry: what becomes of CP0, and where PC goes.
 ghost use mathlib.Core.Path.{_≡_};
+ghost use Prim.Native.Nat.{_≤_};
 ghost use Rattle.word.specs.Number.{between};
-ghost use Rattle.cp0.specs.Entry.{entryHiOf, badVAddrOf, causeOf, enteredOf, vectorOf};
+ghost use Rattle.cp0.specs.Entry.{entryHiOf, badVAddrOf, bdOf, causeOf, enteredOf, vectorOf};
 use crate::registers::Cp0;
 use crate::status::Status;
 use word::map::has_bit;
@@ -24,8 +25,9 @@ const ENTRY_FIELDS: u32 = 0xB000007C;
 // The top 20 bits.
 const PAGE: u32 = 0xFFFFF000;
 
-pub fn entered(c: Cp0, e: Exception, pc: u32) -> Cp0
-    ensures { λ r. ⌜ r ≡ enteredOf e pc c ⌝ }
+// `slot` is whether the exception is in a slot, `epc` the address that the kernel is to go back to.
+pub fn entered(c: Cp0, e: Exception, slot: bool, epc: u32) -> Cp0
+    ensures { λ r. ⌜ r ≡ enteredOf e slot epc c ⌝ }
 {
     let status = Status { word: c.status };
     let pushed = status.pushed();
@@ -36,8 +38,8 @@ pub fn entered(c: Cp0, e: Exception, pc: u32) -> Cp0
         entry_lo: c.entry_lo,
         bad_vaddr: bad_vaddr(e, c.bad_vaddr),
         status: pushed.word,
-        cause: cause(e, c.cause),
-        epc: pc,
+        cause: cause(e, slot, c.cause),
+        epc,
     }
 }
 
@@ -65,14 +67,28 @@ fn bad_vaddr(e: Exception, old: u32) -> u32
     old
 }
 
-fn cause(e: Exception, old: u32) -> u32
-    ensures { λ r. ⌜ r ≡ causeOf e old ⌝ }
+fn bd(slot: bool) -> u32
+    ensures { λ r. ⌜ (r ≡ bdOf slot) × (r ≤ 0x80000000) ⌝ }
 {
+    if slot {
+        return 0x80000000;
+    }
+    0
+}
+
+fn cause(e: Exception, slot: bool, old: u32) -> u32
+    ensures { λ r. ⌜ r ≡ causeOf e slot old ⌝ }
+{
+    let bd = bd(slot);
     let code = e.code % 32 * 4;
     if e.code == COPROCESSOR_UNUSABLE {
-        return overlaid(ENTRY_FIELDS, old, e.coprocessor % 4 * 0x10000000 + code);
+        return overlaid(
+            ENTRY_FIELDS,
+            old,
+            bd + (e.coprocessor % 4 * 0x10000000 + code),
+        );
     }
-    overlaid(ENTRY_FIELDS, old, code)
+    overlaid(ENTRY_FIELDS, old, bd + code)
 }
 
 pub fn vector(status: u32, miss: bool) -> u32

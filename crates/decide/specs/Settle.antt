@@ -1,6 +1,6 @@
--- What an intent then changes, once the address answer is known: the PC pair and the effect.
+-- What an intent then changes, once the address answer is known: the PC pair, whether the next step is a slot, and the effect.
 use Prim.Native.Nat.{ℕ, _*_, _/_}
-use mathlib.Core.Bool.{Bool, cond, false}
+use mathlib.Core.Bool.{Bool, cond, true, false}
 use mathlib.Core.List.{List}
 use lib.Dec.{eqb}
 use Rattle.isa.specs.declared.instr.LoadOp.{LoadOp}
@@ -23,7 +23,7 @@ use Rattle.decide.specs.declared.effect.Decision.{Decision}
 
 -- PC becomes next PC; next PC becomes itself + 4
 abbrev pub onOf : Core → Effect → Decision
-onOf core effect = record { pc = core .«next_pc»; «next_pc» = afterOf (core .«next_pc»); effect = effect }
+onOf core effect = record { pc = core .«next_pc»; «next_pc» = afterOf (core .«next_pc»); branched = false; effect = effect }
 
 -- document 01, "Exception entry": PC goes to the vector, next PC 4 beyond
 abbrev pub raisedOf : Core → Exception → Decision
@@ -31,6 +31,7 @@ raisedOf core e =
     record {
       pc = vectorOf (core .cp0 .status) (e .miss);
       «next_pc» = afterOf (vectorOf (core .cp0 .status) (e .miss));
+      branched = false;
       effect = Raise e;
     }
 
@@ -65,9 +66,9 @@ storesOf op x word (place.Device at) = DeviceStore at x
 abbrev pub writtenOf : ℕ → ℕ → Effect
 writtenOf d v = toRegister d (Register d v)
 
--- a branch: next PC becomes what it says, and its link is written
+-- a branch or jump, taken or not: next PC becomes what it says, and its link is written
 abbrev pub branchedOf : Core → ℕ → ℕ → ℕ → Decision
-branchedOf core d v next = record { pc = core .«next_pc»; «next_pc» = next; effect = writtenOf d v }
+branchedOf core d v next = record { pc = core .«next_pc»; «next_pc» = next; branched = true; effect = writtenOf d v }
 
 abbrev pub loadedOf : Core → Lent → LoadOp → ℕ → ℕ → ℕ → Reached → Decision
 loadedOf core lent op d old va (reached.Lands place) = onOf core (loadsOf op d old (wordIn lent place) place)

@@ -1,4 +1,4 @@
-// What a step changes besides the clocks: the PC pair, and one kind of place.
+// What a step changes besides the clocks: the PC pair, the slot, and one kind of place.
 use cp0::entry::Exception;
 use isa::instr::ControlRegister;
 use tlb::Row;
@@ -19,5 +19,7 @@ pub enum Effect {
 pub struct Decision {
     pub pc: u32,
     pub next_pc: u32,
+    // Whether the step executes a branch or jump, so that the next one is a slot.
+    pub branched: bool,
     pub effect: Effect,
 }

@@ -40,6 +40,7 @@ fn on(core: Core, effect: Effect) -> Decision
     Decision {
         pc: core.next_pc,
         next_pc: after(core.next_pc),
+        branched: false,
         effect,
     }
 }
@@ -51,6 +52,7 @@ pub fn raised(core: Core, exception: Exception) -> Decision
     Decision {
         pc,
         next_pc: after(pc),
+        branched: false,
         effect: Effect::Raise(exception),
     }
 }
@@ -177,6 +179,7 @@ fn branched(core: Core, d: u32, v: u32, next: u32) -> Decision
     Decision {
         pc: core.next_pc,
         next_pc: next,
+        branched: true,
         effect: written(d, v),
     }
 }

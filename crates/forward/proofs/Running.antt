@@ -47,23 +47,23 @@ fits-run b passed keeps is =
 -- ---- the image and the budget
 
 module _ (b : Buffers) (budget : ℕ) where
-  pub bad-length : (length (b .image) ≡ 501 → ⊥) → imageTest b budget ≡ Failed Image
+  pub bad-length : (length (b .image) ≡ 509 → ⊥) → imageTest b budget ≡ Failed Image
   unfolding imageTest
-  bad-length h = rw (ne-eqb (length (b .image)) 501 h)
+  bad-length h = rw (ne-eqb (length (b .image)) 509 h)
 
-  module _ (long : length (b .image) ≡ 501) where
+  module _ (long : length (b .image) ≡ 509) where
     pub bad-rules : keepsRules (b .image) (length (b .beside .paper)) (length (b .beside .journal)) ≡ false → imageTest b budget ≡ Failed Image
     unfolding imageTest
-    bad-rules e = rw (eq-eqb (length (b .image)) 501 long, e)
+    bad-rules e = rw (eq-eqb (length (b .image)) 509 long, e)
 
     module _ (keeps : keepsRules (b .image) (length (b .beside .paper)) (length (b .beside .journal)) ≡ true) where
       pub bad-budget : 1000000 < budget → imageTest b budget ≡ Failed Range
       unfolding imageTest
-      bad-budget l = rw (eq-eqb (length (b .image)) 501 long, keeps, lt-leb budget 1000000 l)
+      bad-budget l = rw (eq-eqb (length (b .image)) 509 long, keeps, lt-leb budget 1000000 l)
 
       pub all-passed : budget ≤ 1000000 → imageTest b budget ≡ Passed
       unfolding imageTest
-      all-passed l = rw (eq-eqb (length (b .image)) 501 long, keeps, le-leb budget 1000000 l)
+      all-passed l = rw (eq-eqb (length (b .image)) 509 long, keeps, le-leb budget 1000000 l)
 
 -- ---- the run
 

@@ -24,7 +24,7 @@ use Rattle.answer.specs.declared.lent.Test.the-variants.{Passed, Failed}
 abbrev pub besideTest : Beside → Test
 besideTest b = lentTest (length (b .execution)) (length (b .bootstrap)) (length (b .ram)) (length (b .paper)) (length (b .journal))
 
--- 5: the image is not 501 bytes or breaks a rule; 6: "a budget over 1,000,000"
+-- 5: the image is not 509 bytes or breaks a rule; 6: "a budget over 1,000,000"
 unfoldable pub imageTest : Buffers → ℕ → Test
 imageTest b budget =
     cond (goodImage (b .image) (length (b .beside .paper)) (length (b .beside .journal))) (cond (leb budget 1000000) Passed (Failed Range)) (Failed Image)

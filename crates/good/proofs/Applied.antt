@@ -1,4 +1,4 @@
--- What is decided, applied to a good world, leaves it good: effect by effect, then the PC pair.
+-- What is decided, applied to a good world, leaves it good: effect by effect, then the PC pair and the slot.
 use Prim.Native.Nat.{ℕ, _+_, _^_, _<_}
 use mathlib.Core.Path.{_≡_, _∙_, sym, subst}
 use mathlib.Core.List.{List, _++_}
@@ -25,7 +25,7 @@ use Rattle.step.specs.World.{World}
 use Rattle.step.specs.Apply.{boardStored, deviceWord, paired, effectOf, appliedOf}
 use Rattle.good.specs.Good.{Good}
 use Rattle.good.proofs.Belows.{below-left, below-right, below-set}
-use Rattle.good.proofs.Control.{with-cp0, with-hi-lo, with-pc}
+use Rattle.good.proofs.Control.{with-cp0, with-hi-lo, with-pc, slot-after}
 use Rattle.good.proofs.Device.{Countable, device-word, small-store, board-stored, lines-stored}
 use Rattle.good.proofs.Sound.{Registers, Table, Sound, good-sound, sound-good}
 
@@ -99,7 +99,7 @@ effect-sound sizes (Raise e) w c s i l =
 
 paired-sound : (d : Decision) (w : World) → d .pc < 2 ^ 32 → d .«next_pc» < 2 ^ 32 → Sound w → Sound (paired d w)
 paired-sound d w pc next s =
-    record { regs = s .regs; core = with-pc (s .core) (d .pc) (d .«next_pc») pc next; rows = s .rows; board = s .board; ram = s .ram; paper = s .paper }
+    record { regs = s .regs; core = with-pc (slot-after (s .core) (d .branched)) (d .pc) (d .«next_pc») pc next; rows = s .rows; board = s .board; ram = s .ram; paper = s .paper }
 
 pub apply-sound : (sizes : Sizes) (d : Decision) (w : World) → Countable sizes → Sound w → Within (length (w .ram)) 16 (d .effect) →
     Proper (w .cpu .core) (w .board .line .pending) d → Sound (appliedOf sizes d w)

@@ -1,7 +1,7 @@
--- CP0 keeps its rules where Random and Cause alone are anew, and the core where CP0, HI and LO or the PC pair are.
+-- CP0 keeps its rules where Random and Cause alone are anew, and the core where CP0, HI and LO, the PC pair or the slot are.
 use Prim.Native.Nat.{ℕ, _%_, _^_, _<_}
-use mathlib.Core.Path.{_≡_}
-use mathlib.Core.Bool.{true}
+use mathlib.Core.Path.{_≡_, refl}
+use mathlib.Core.Bool.{Bool, true, false}
 use native.Mathlib.Omega.{arith}
 use borrow.Author.Tests.{leb-true, le-leb, eq-eqb}
 use lib.Dec.{eqb, leb}
@@ -11,7 +11,8 @@ use Rattle.cp0.specs.Random.{field, topEntry, randomOf}
 use Rattle.cp0.specs.declared.registers.Cp0.{Cp0}
 use Rattle.cp0.proofs.Randoms.{InTable, random-stays}
 use Rattle.printer.specs.Cause.{shownOf}
-use Rattle.state.specs.Layout.{cp0Words, coreWords}
+use Rattle.state.specs.Layout.{cp0Words, keptWords}
+use Rattle.state.specs.Slot.{slotAfter}
 use Rattle.state.specs.declared.machine.Core.{Core}
 use Rattle.rules.specs.Rules.{randomKeeps}
 use Rattle.step.specs.Apply.{withHiLo, withCp0, withPc}
@@ -79,16 +80,24 @@ module _ {p : Cp0} {pending : ℕ} (g : ControlGood p pending) where
 module _ {c : Core} {pending : ℕ} (s : CoreSound c pending) where
   pub with-cp0 : (p : Cp0) (next : ℕ) → ControlGood p next → CoreSound (withCp0 p c) next
   with-cp0 p next g =
-      let old = below-each (coreWords c) (s .words) in
+      let old = below-each (keptWords c) (s .words) in
       let new = below-each (cp0Words p) (g .words) in
-      record { words = each-below (coreWords (withCp0 p c)) (omega arith); kept = g .kept }
+      record { words = each-below (keptWords (withCp0 p c)) (omega arith); kept = g .kept; slot = s .slot }
 
   pub with-hi-lo : (hi lo : ℕ) → hi < 2 ^ 32 → lo < 2 ^ 32 → CoreSound (withHiLo hi lo c) pending
   with-hi-lo hi lo h l =
-      let old = below-each (coreWords c) (s .words) in
-      record { words = each-below (coreWords (withHiLo hi lo c)) (omega arith); kept = s .kept }
+      let old = below-each (keptWords c) (s .words) in
+      record { words = each-below (keptWords (withHiLo hi lo c)) (omega arith); kept = s .kept; slot = s .slot }
 
   pub with-pc : (pc next : ℕ) → pc < 2 ^ 32 → next < 2 ^ 32 → CoreSound (withPc pc next c) pending
   with-pc pc next h l =
-      let old = below-each (coreWords c) (s .words) in
-      record { words = each-below (coreWords (withPc pc next c)) (omega arith); kept = s .kept }
+      let old = below-each (keptWords c) (s .words) in
+      record { words = each-below (keptWords (withPc pc next c)) (omega arith); kept = s .kept; slot = s .slot }
+
+  pub slot-after : (branched : Bool) → CoreSound (slotAfter branched c) pending
+  slot-after true =
+      let old = below-each (keptWords c) (s .words) in
+      record { words = each-below (keptWords (slotAfter true c)) (omega arith); kept = s .kept; slot = refl }
+  slot-after false =
+      let old = below-each (keptWords c) (s .words) in
+      record { words = each-below (keptWords (slotAfter false c)) (omega arith); kept = s .kept; slot = refl }

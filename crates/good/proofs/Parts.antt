@@ -6,13 +6,13 @@ use native.Mathlib.Omega.{arith}
 use lib.ListN.{getD, drop}
 use Rattle.word.specs.Lists.{flat, Below}
 use Rattle.word.proofs.Lists.{below-nil, below-cons, below-append}
-use Rattle.state.specs.Layout.{coreWords, rowWords, clockWords, settingsWords, printerWords, journalWords, wordsOf, Sized, WellTyped}
+use Rattle.state.specs.Layout.{coreWords, slotWords, keptWords, rowWords, clockWords, settingsWords, printerWords, journalWords, wordsOf, Sized, WellTyped}
 use Rattle.state.specs.declared.machine.Machine.{Machine}
 use Rattle.good.proofs.Belows.{below-left, below-right}
 
 pub record Words (m : Machine) : Type 0 where
   pub regs : Below (2 ^ 32) (m .cpu .regs)
-  pub core : Below (2 ^ 32) (coreWords (m .cpu .core))
+  pub core : Below (2 ^ 32) (keptWords (m .cpu .core))
   pub rows : Below (2 ^ 32) (flat rowWords (m .cpu .tlb))
   pub clock : Below (2 ^ 32) (clockWords (m .board .clock))
   pub settings : Below (2 ^ 32) (settingsWords (m .board .settings))
@@ -33,8 +33,11 @@ module _ (m : Machine) where
   abbrev regs : List ℕ
   regs = drop 1 (m .cpu .regs)
 
+  abbrev from-journal : List ℕ
+  from-journal = journalWords (m .journal) ++ slotWords (m .cpu .core)
+
   abbrev last : List ℕ
-  last = m .board .line .pending ∷ journalWords (m .journal)
+  last = m .board .line .pending ∷ from-journal
 
   abbrev from-printers : List ℕ
   from-printers = flat printerWords (m .board .line .printers) ++ last
@@ -60,15 +63,18 @@ module _ (m : Machine) where
       let h₄ = below-right (clockWords (m .board .clock)) from-settings h₃ in
       let h₅ = below-right (settingsWords (m .board .settings)) from-printers h₄ in
       let h₆ = below-right (flat printerWords (m .board .line .printers)) last h₅ in
+      let h₇ = below-right (m .board .line .pending ∷ []) from-journal h₆ in
       record {
         regs = with-zero (m .cpu .regs) (t .zero) (below-left regs from-core (t .small));
-        core = below-left (coreWords (m .cpu .core)) from-rows h₁;
+        core =
+            below-append (coreWords (m .cpu .core)) (slotWords (m .cpu .core)) (below-left (coreWords (m .cpu .core)) from-rows h₁)
+            (below-right (journalWords (m .journal)) (slotWords (m .cpu .core)) h₇);
         rows = below-left (flat rowWords (m .cpu .tlb)) from-clock h₂;
         clock = below-left (clockWords (m .board .clock)) from-settings h₃;
         settings = below-left (settingsWords (m .board .settings)) from-printers h₄;
         printers = below-left (flat printerWords (m .board .line .printers)) last h₅;
         pending = h₆ 0 (omega arith);
-        journal = below-right (m .board .line .pending ∷ []) (journalWords (m .journal)) h₆;
+        journal = below-left (journalWords (m .journal)) (slotWords (m .cpu .core)) h₇;
       }
 
   pub well-typed : Sized m → getD (m .cpu .regs) 0 0 ≡ 0 → Words m → WellTyped m
@@ -78,10 +84,12 @@ module _ (m : Machine) where
     zero = z;
     small =
         below-append regs from-core (without-zero (m .cpu .regs) (w .regs))
-        (below-append (coreWords (m .cpu .core)) from-rows (w .core)
+        (below-append (coreWords (m .cpu .core)) from-rows (below-left (coreWords (m .cpu .core)) (slotWords (m .cpu .core)) (w .core))
         (below-append (flat rowWords (m .cpu .tlb)) from-clock (w .rows)
         (below-append (clockWords (m .board .clock)) from-settings (w .clock)
         (below-append (settingsWords (m .board .settings)) from-printers (w .settings)
         (below-append (flat printerWords (m .board .line .printers)) last (w .printers)
-        (below-cons (journalWords (m .journal)) (w .pending) (w .journal)))))));
+        (below-cons from-journal (w .pending)
+        (below-append (journalWords (m .journal)) (slotWords (m .cpu .core)) (w .journal)
+        (below-right (coreWords (m .cpu .core)) (slotWords (m .cpu .core)) (w .core)))))))));
   }

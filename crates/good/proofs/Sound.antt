@@ -11,11 +11,11 @@ use Rattle.tlb.specs.declared.Row.{Row}
 use Rattle.printer.specs.Rules.{Keeps}
 use Rattle.printer.specs.Tick.{noPrinter}
 use Rattle.printer.specs.declared.Line.{Line}
-use Rattle.state.specs.Layout.{coreWords, rowWords, clockWords, settingsWords, printerWords, journalWords, WellTyped}
+use Rattle.state.specs.Layout.{keptWords, rowWords, clockWords, settingsWords, printerWords, journalWords, WellTyped}
 use Rattle.state.specs.declared.machine.Core.{Core}
 use Rattle.state.specs.declared.machine.Board.{Board}
 use Rattle.state.specs.declared.machine.Journal.{Journal}
-use Rattle.rules.specs.Rules.{entryKeeps, cp0Keeps, rangesKeep, stateKeeps}
+use Rattle.rules.specs.Rules.{entryKeeps, cp0Keeps, rangesKeep, slotKeeps, stateKeeps}
 use Rattle.rules.proofs.Kept.{kept, kept-keeps}
 use Rattle.proper.specs.Proper.{RowGood}
 use Rattle.step.specs.World.{World}
@@ -29,8 +29,9 @@ pub record Registers (l : List ℕ) : Type 0 where
   pub small : Below (2 ^ 32) l
 
 pub record CoreSound (c : Core) (pending : ℕ) : Type 0 where
-  pub words : Below (2 ^ 32) (coreWords c)
+  pub words : Below (2 ^ 32) (keptWords c)
   pub kept : cp0Keeps (c .cp0) pending ≡ true
+  pub slot : slotKeeps (c .slot) (c .branch) ≡ true
 
 pub record Table (t : List Row) : Type 0 where
   pub long : length t ≡ 16
@@ -70,7 +71,7 @@ module _ (w : World) where
       let k = kept m (length (w .paper)) (s .printers) (g .kept) in
       record {
         regs = record { long = s .regs; zero = g .typed .zero; small = v .regs };
-        core = record { words = v .core; kept = k .control };
+        core = record { words = v .core; kept = k .control; slot = k .slot };
         rows =
             record {
               long = s .tlb;
@@ -119,6 +120,7 @@ module _ (w : World) where
         rows = λ i h. s .rows .each i h .kept;
         ranges = s .board .ranges;
         line = s .board .line;
+        slot = s .core .slot;
       })
 
   pub sound-good : Sound w → Good w

@@ -6,17 +6,17 @@ use lib.ListN.{length, getD}
 use Rattle.word.specs.Lists.{tabulate}
 use Rattle.word.proofs.Lists.{tabulate-getD}
 use Rattle.state.specs.declared.machine.Core.{Core}
-use Rattle.state.specs.Layout.{coreWords}
+use Rattle.state.specs.Layout.{keptWords}
 use Rattle.held.specs.Core.{coreIn}
 
-pub core-held : (c : Core) → coreIn (coreWords c) ≡ c
+pub core-held : (c : Core) → coreIn (keptWords c) ≡ c
 unfolding coreIn
 core-held c = refl
 
--- the twelve words, one after the other
-in-order : (w : List ℕ) → coreWords (coreIn w) ≡ tabulate 12 (λ (i : ℕ). getD w i 0)
+-- the fourteen words, one after the other
+in-order : (w : List ℕ) → keptWords (coreIn w) ≡ tabulate 14 (λ (i : ℕ). getD w i 0)
 unfolding coreIn
 in-order w = refl
 
-pub words-held : (w : List ℕ) → length w ≡ 12 → coreWords (coreIn w) ≡ w
-words-held w twelve = in-order w ∙ ap (λ (n : ℕ). tabulate n (λ (i : ℕ). getD w i 0)) (sym twelve) ∙ tabulate-getD w 0
+pub words-held : (w : List ℕ) → length w ≡ 14 → keptWords (coreIn w) ≡ w
+words-held w fourteen = in-order w ∙ ap (λ (n : ℕ). tabulate n (λ (i : ℕ). getD w i 0)) (sym fourteen) ∙ tabulate-getD w 0

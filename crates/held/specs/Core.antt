@@ -1,4 +1,4 @@
--- How a run holds the core: as its twelve words, in the order of the image and of a step's record.
+-- How a run holds the core: as its fourteen words, in the order of the image and of a step's record.
 use Prim.Native.Nat.{ℕ}
 use mathlib.Core.List.{List}
 use lib.ListN.{getD}
@@ -7,6 +7,6 @@ use Rattle.state.specs.Layout.{coreFrom}
 
 -- ---- aids to proofs: nothing that a reader must believe
 
--- `coreWords` of state read back
+-- `keptWords` of state read back
 unfoldable pub coreIn : List ℕ → Core
-coreIn words = coreFrom 0 (λ (k : ℕ). getD words k 0)
+coreIn words = coreFrom 0 12 (λ (k : ℕ). getD words k 0)

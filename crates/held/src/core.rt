@@ -1,12 +1,11 @@
-// How a run holds the core: as its twelve words, so that a step's record copies them as they stand.
+// How a run holds the core: as its fourteen words, so that a step's record copies them as they stand.
 ghost use mathlib.Core.Path.{_≡_};
-ghost use Rattle.state.specs.Layout.{coreWords};
+ghost use Rattle.state.specs.Layout.{keptWords};
 ghost use Rattle.held.specs.Core.{coreIn};
 use cp0::registers::Cp0;
-use state::encode::core_words;
 use state::machine::Core;
 
-pub fn core_in(words: &[u32; 12]) -> Core
+pub fn core_in(words: &[u32; 14]) -> Core
     ensures { λ r. ⌜ r ≡ coreIn (now (words .entry)) ⌝ }
 {
     let cp0 = Cp0 {
@@ -25,11 +24,35 @@ pub fn core_in(words: &[u32; 12]) -> Core
         pc: words[2],
         next_pc: words[3],
         cp0: cp0,
+        slot: words[12],
+        branch: words[13],
     }
 }
 
-pub fn put_core(c: Core, words: &mut [u32; 12])
-    ensures { λ _. ⌜ now (words .exit) ≡ coreWords c ⌝ }
+pub fn core_words(c: Core) -> [u32; 14]
+    ensures { λ r. ⌜ r ≡ keptWords c ⌝ }
+{
+    let p = c.cp0;
+    [
+        c.hi,
+        c.lo,
+        c.pc,
+        c.next_pc,
+        p.index,
+        p.random,
+        p.entry_hi,
+        p.entry_lo,
+        p.bad_vaddr,
+        p.status,
+        p.cause,
+        p.epc,
+        c.slot,
+        c.branch,
+    ]
+}
+
+pub fn put_core(c: Core, words: &mut [u32; 14])
+    ensures { λ _. ⌜ now (words .exit) ≡ keptWords c ⌝ }
 {
     *words = core_words(c);
 }

@@ -7,7 +7,7 @@ ghost use Rattle.word.specs.Lists.{flat};
 ghost use Rattle.state.specs.Layout.{printerWords};
 ghost use Rattle.held.specs.Board.{printerIn, printersIn};
 
-pub mod core; // the core, as its twelve words
+pub mod core; // the core, as its fourteen words
 pub mod line; // the moves of the printers' line
 
 use clock::Clock;

@@ -1,5 +1,5 @@
 // The state image's words at their places (document 01, "The state image"). An image of another length holds 0 everywhere.
-pub const WORDS: usize = 124;
+pub const WORDS: usize = 126;
 
 pub const HI: usize = 31;
 
@@ -54,7 +54,7 @@ pub fn word(image: &[u8], k: usize) -> u64 {
     if WORDS <= k {
         return 0;
     }
-    if image.len() != 501 {
+    if image.len() != 509 {
         return 0;
     }
     word::big::word_at(image, 4 * k + 5) as u64

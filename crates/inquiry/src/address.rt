@@ -8,7 +8,7 @@ use state::decode::decode;
 
 const ADEL: u32 = 4;
 
-const IMAGE_BYTES: usize = 501;
+const IMAGE_BYTES: usize = 509;
 
 // An address that the machine itself would use: through privilege and table.
 pub fn through_table(image: &[u8], access: Access, sizes: Sizes, address: u32) -> Reached {

@@ -32,7 +32,7 @@ module _ (mark : Journal) (journal : List ℕ) where
   abbrev parts : Saved → Ring
   parts s =
       record {
-        bytes = sets journal (256 * mark .«next_slot» + 68) (flat (toBytes 4) (savedWords s));
+        bytes = sets journal (256 * mark .«next_slot» + 76) (flat (toBytes 4) (savedWords s));
         hand = min (slotsOf journal) (mark .«on_hand» + 1);
         next = nextSlot (slotsOf journal) (mark .«next_slot»);
       }
@@ -40,7 +40,7 @@ module _ (mark : Journal) (journal : List ℕ) where
   pub ended-none : (s : Saved) → slotsOf journal ≡ 0 → endedOf mark s journal ≡ ringOf mark journal
   ended-none s e = ap (λ (b : Bool). cond b (ringOf mark journal) (parts s)) (eq-eqb (slotsOf journal) 0 e)
 
-  pub ended-as : (s : Saved) (g : Ring) → 0 < slotsOf journal → g .bytes ≡ sets journal (256 * mark .«next_slot» + 68) (flat (toBytes 4) (savedWords s)) →
+  pub ended-as : (s : Saved) (g : Ring) → 0 < slotsOf journal → g .bytes ≡ sets journal (256 * mark .«next_slot» + 76) (flat (toBytes 4) (savedWords s)) →
       g .hand ≡ min (slotsOf journal) (mark .«on_hand» + 1) → g .next ≡ nextSlot (slotsOf journal) (mark .«next_slot») → g ≡ endedOf mark s journal
   ended-as s g h bytes hand next =
       (λ i. record { bytes = bytes i; hand = hand i; next = next i })
@@ -87,12 +87,12 @@ module _ (mark : Journal) (r : Record) (journal : List ℕ) (eight : length (r .
       }
 
   -- the bytes of what is saved go over those that were begun
-  bytes-whole : (s : Saved) → 0 < slotsOf journal → sets (begunOf mark r journal) (256 * mark .«next_slot» + 68) (flat (toBytes 4) (savedWords s))
+  bytes-whole : (s : Saved) → 0 < slotsOf journal → sets (begunOf mark r journal) (256 * mark .«next_slot» + 76) (flat (toBytes 4) (savedWords s))
       ≡ put journal (256 * mark .«next_slot») (recordBytes (withSaved s r))
   bytes-whole s some =
       let new = flat (toBytes 4) (savedWords s) in
-      ap (λ (l : List ℕ). sets l (256 * mark .«next_slot» + 68) new) (begun-some mark journal r some)
-      ∙ stores-within journal (256 * mark .«next_slot») 68 (recordBytes r) new (recordBytes (withSaved s r)) (room some)
+      ap (λ (l : List ℕ). sets l (256 * mark .«next_slot» + 76) new) (begun-some mark journal r some)
+      ∙ stores-within journal (256 * mark .«next_slot») 76 (recordBytes r) new (recordBytes (withSaved s r)) (room some)
       (omega (arith, length-bytes r eight, length-saved-bytes s)) (saved-later r s)
 
 -- THE law of the two parts

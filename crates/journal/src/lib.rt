@@ -16,19 +16,19 @@ use state::machine::Journal;
 pub const SLOT: usize = 256;
 
 // Where in a slot the words of what is saved begin (docs/RECORD.md).
-const SAVED: usize = 68;
+const SAVED: usize = 76;
 
 fn put_record(
     journal: &mut [u8],
     slot: usize,
-    core: &[u32; 12],
+    core: &[u32; 14],
     timer: u32,
     pending: u32,
     paper: SavedPaper,
     words: &[u32; 40],
 )
     requires { ⌜ slot < length (now journal) / 256 ⌝ }
-    requires { ⌜ length (now core) ≡ 12 ⌝ }
+    requires { ⌜ length (now core) ≡ 14 ⌝ }
     requires { ⌜ length (now words) ≡ 40 ⌝ }
     ensures { λ _. ⌜ now (journal .exit) ≡ put (now (journal .entry)) (256 * slot) (recordBytes (heldRecord (now (core .entry)) timer pending paper (now (words .entry)))) ⌝ }
 {
@@ -42,14 +42,14 @@ fn put_record(
 pub fn begun(
     journal: &mut [u8],
     mark: Journal,
-    core: &[u32; 12],
+    core: &[u32; 14],
     timer: u32,
     pending: u32,
     paper: SavedPaper,
     words: &[u32; 40],
 )
     requires { ⌜ Ready (now journal) mark ⌝ }
-    requires { ⌜ length (now core) ≡ 12 ⌝ }
+    requires { ⌜ length (now core) ≡ 14 ⌝ }
     requires { ⌜ length (now words) ≡ 40 ⌝ }
     ensures { λ _. ⌜ now (journal .exit) ≡ begunOf mark (heldRecord (now (core .entry)) timer pending paper (now (words .entry))) (now (journal .entry)) ⌝ }
 {

@@ -1,2 +1,2 @@
-// The public calls of document 01, for C: each takes any bytes and any numbers, and answers done or one numbered refusal.
-mod panel; // the three calls
+// The public calls, for C: each takes any bytes and any numbers, and answers done or one numbered refusal.
+mod panel; // the four calls

@@ -1,10 +1,12 @@
 // The calls for C, as include/lavushmir.h declares them.
 ghost use Rattle.turn.specs.Buffers.{buffersOf, buffersBack};
-ghost use Rattle.lavushmir.specs.Panel.{PackedResetIs, PackedIs};
+ghost use lib.ListN.{length};
+ghost use Rattle.lavushmir.specs.Panel.{PackedResetIs, PackedConvertIs, PackedIs};
 ghost use Rattle.forward.specs.Run.{runLeaves};
 ghost use Rattle.backward.specs.Back.{backLeaves};
 use answer::packed;
 use backward::take_back;
+use convert::convert;
 use forward::run;
 use reset::reset;
 
@@ -18,6 +20,18 @@ pub extern "C" fn lavushmir_reset(
     ensures { λ r. ⌜ PackedResetIs (now (image .entry)) «time_scale» «printer_delay» installed r (now (image .exit)) ⌝ }
 {
     packed(reset(image, time_scale, printer_delay, installed))
+}
+
+#[no_mangle]
+pub extern "C" fn lavushmir_convert(
+    old: &[u8],
+    image: &mut [u8],
+    paper: &[u8],
+    journal: &[u8],
+) -> u64
+    ensures { λ r. ⌜ PackedConvertIs (now (old .entry)) (now (image .entry)) (length (now (paper .entry))) (length (now (journal .entry))) r (now (image .exit)) ⌝ }
+{
+    packed(convert(old, image, paper, journal))
 }
 
 #[no_mangle]

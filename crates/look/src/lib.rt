@@ -39,7 +39,7 @@ pub fn next_look(rows: [Row; 16], steps: u32, budget: u32) -> u32
 }
 
 fn held_back(
-    core: &[u32; 12],
+    core: &[u32; 14],
     held: Held,
     words: &[u32; 40],
     regs: &[u32; 32],
@@ -63,7 +63,7 @@ pub fn looked(
     steps: u32,
     limit: u32,
     budget: u32,
-    core: &[u32; 12],
+    core: &[u32; 14],
     held: Held,
     words: &[u32; 40],
     regs: &[u32; 32],

@@ -28,7 +28,7 @@ cp0 =
     }
 
 abbrev core : Core
-core = record { hi = 0; lo = 0; pc = 0x20000000; «next_pc» = 0x20000004; cp0 = cp0 }
+core = record { hi = 0; lo = 0; pc = 0x20000000; «next_pc» = 0x20000004; cp0 = cp0; slot = 0; branch = 0 }
 
 abbrev board : Board
 board =

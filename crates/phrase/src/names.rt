@@ -106,7 +106,9 @@ fn row_of_word(k: u64) -> u64 {
         75..=80 => k - 63,
         121 => 18,
         122 => 19,
-        _ => 20,
+        123 => 20,
+        124 => 21,
+        _ => 22,
     }
 }
 
@@ -116,7 +118,8 @@ fn single_word(out: &mut [u8], at: usize, k: u64) -> usize {
         at,
         b"HI|LO|PC|next PC|Index|Random|EntryHi|EntryLo|BadVAddr|Status|Cause|EPC|\
         clock high|clock low|timer|time scale|printer delay|printers installed|\
-        printers pending|steps on hand|next slot",
+        printers pending|steps on hand|next slot|slot flag|\
+        branch address",
         row_of_word(k),
     )
 }

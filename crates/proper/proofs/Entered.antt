@@ -1,6 +1,7 @@
 -- Exception entry leaves a CP0 that keeps the rules.
 use Prim.{tt}
 use Prim.Native.Nat.{ℕ, _+_, _^_, _≤_, _<_}
+use mathlib.Core.Bool.{Bool}
 use mathlib.Core.Path.{_≡_, refl, sym, ap, _∙_}
 use native.Mathlib.Omega.{arith}
 use lib.Dec.{lit<}
@@ -56,25 +57,25 @@ module _ (pending word : ℕ) (g : Good Status pending word) where
 line-bit : (k cause : ℕ) → k < 8 → bit k (interrupt.ip cause) ≡ bit (8 + k) cause
 line-bit k cause h = low-bit 8 k _ h ∙ shr-bit 8 k cause
 
-module _ (e : Exception) (pc : ℕ) (c : Cp0) (pending : ℕ) (code : e .code ≤ 12) (address : e .address < 2 ^ 32) (fits : pc < 2 ^ 32)
+module _ (e : Exception) (slot : Bool) (epc : ℕ) (c : Cp0) (pending : ℕ) (code : e .code ≤ 12) (address : e .address < 2 ^ 32) (fits : epc < 2 ^ 32)
     (g : ControlGood c pending) where
-  line-kept : (k : ℕ) → 3 ≤ k → k < 8 → bit (8 + k) (causeOf e (c .cause)) ≡ bit (8 + k) (c .cause)
+  line-kept : (k : ℕ) → 3 ≤ k → k < 8 → bit (8 + k) (causeOf e slot (c .cause)) ≡ bit (8 + k) (c .cause)
   unfolding enteredOf
-  line-kept k low high = sym (line-bit k (causeOf e (c .cause)) high) ∙ ap (bit k) (ip-kept e pc c) ∙ line-bit k (c .cause) high
+  line-kept k low high = sym (line-bit k (causeOf e slot (c .cause)) high) ∙ ap (bit k) (ip-kept e slot epc c) ∙ line-bit k (c .cause) high
 
-  cause-small : causeOf e (c .cause) < 2 ^ 32
+  cause-small : causeOf e slot (c .cause) < 2 ^ 32
   unfolding causeOf
   cause-small =
-      overlaid-word entryMask causeBits (c .cause) (fieldsOf e) (lit< tt) (lit< tt) refl (each-of c pending g Cause .small)
+      overlaid-word entryMask causeBits (c .cause) (fieldsOf e slot) (lit< tt) (lit< tt) refl (each-of c pending g Cause .small)
 
-  cause-good : Good Cause pending (causeOf e (c .cause))
+  cause-good : Good Cause pending (causeOf e slot (c .cause))
   unfolding enteredOf causeOf
   cause-good =
       let was = each-of c pending g Cause in
-      let told = code-told e pc c (omega arith) in
+      let told = code-told e slot epc c (omega arith) in
       record {
         small = cause-small;
-        kept = cause-moves (c .cause) (causeOf e (c .cause)) pending line-kept (was .kept) (overlaid-keeps entryMask causeBits (c .cause) (fieldsOf e) (lit< tt) (lit< tt) refl (was .small) (cause-rules (c .cause) pending (was .kept) .inside)) (omega arith);
+        kept = cause-moves (c .cause) (causeOf e slot (c .cause)) pending line-kept (was .kept) (overlaid-keeps entryMask causeBits (c .cause) (fieldsOf e slot) (lit< tt) (lit< tt) refl (was .small) (cause-rules (c .cause) pending (was .kept) .inside)) (omega arith);
       }
 
   bad-address-good : Good BadVAddr pending (badVAddrOf e (c .«bad_vaddr»))
@@ -94,7 +95,7 @@ module _ (e : Exception) (pc : ℕ) (c : Cp0) (pending : ℕ) (code : e .code �
       })
       (λ _. was)
 
-  each-entered : (r : ControlRegister) → Good r pending (readOf r (enteredOf e pc c))
+  each-entered : (r : ControlRegister) → Good r pending (readOf r (enteredOf e slot epc c))
   unfolding enteredOf
   each-entered Index = each-of c pending g Index
   each-entered Random = each-of c pending g Random
@@ -105,5 +106,5 @@ module _ (e : Exception) (pc : ℕ) (c : Cp0) (pending : ℕ) (code : e .code �
   each-entered Cause = cause-good
   each-entered Epc = record { small = fits; kept = refl }
 
-  pub entered-good : ControlGood (enteredOf e pc c) pending
-  entered-good = all-good (enteredOf e pc c) pending each-entered
+  pub entered-good : ControlGood (enteredOf e slot epc c) pending
+  entered-good = all-good (enteredOf e slot epc c) pending each-entered

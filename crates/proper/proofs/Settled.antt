@@ -15,6 +15,7 @@ use Rattle.cp0.specs.Entry.{vectorOf}
 use Rattle.cp0.specs.declared.entry.Exception as entry
 use Rattle.tlb.specs.declared.Row.{Row}
 use Rattle.reach.specs.declared.Reached.the-variants.{Lands, Exception}
+use Rattle.state.specs.Slot.{inSlot, returnOf}
 use Rattle.state.specs.declared.machine.Core.{Core}
 use Rattle.intend.specs.Operand.{regOf}
 use Rattle.intend.specs.declared.intent.Intent.{Intent}
@@ -59,6 +60,9 @@ module _ (core : Core) (pending : ℕ) (regs : List ℕ) (t : List Row) (lent : 
   next-word : core .«next_pc» < 2 ^ 32
   next-word = s .words 3 (omega arith)
 
+  return-word : returnOf core < 2 ^ 32
+  return-word = picked (λ x. x < 2 ^ 32) (inSlot core) _ _ (λ _. s .words 13 (omega arith)) (λ _. pc-word)
+
   bytes : Bytes lent
   bytes = record { execution = s .execution; bootstrap = s .bootstrap; ram = s .ram }
 
@@ -71,7 +75,7 @@ module _ (core : Core) (pending : ℕ) (regs : List ℕ) (t : List Row) (lent : 
       record {
         pc = vector-word (core .cp0 .status) (e .miss);
         next = after-small (vectorOf (core .cp0 .status) (e .miss));
-        leaves = entered-good e (core .pc) (core .cp0) pending code address pc-word (s .control);
+        leaves = entered-good e (inSlot core) (returnOf core) (core .cp0) pending code address return-word (s .control);
       }
 
   pub refused-proper : (code : ℕ) (miss : Bool) (address : ℕ) → code ≤ 12 → address < 2 ^ 32 → Proper core pending (refusedOf core code miss address)

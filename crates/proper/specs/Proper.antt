@@ -10,7 +10,8 @@ use Rattle.cp0.specs.Registers.{withRegister, withEntry}
 use Rattle.cp0.specs.declared.registers.Cp0.{Cp0}
 use Rattle.tlb.specs.Entry.{noRow}
 use Rattle.tlb.specs.declared.Row.{Row}
-use Rattle.state.specs.Layout.{cp0Words, coreWords}
+use Rattle.state.specs.Layout.{cp0Words, keptWords}
+use Rattle.state.specs.Slot.{inSlot, returnOf}
 use Rattle.state.specs.declared.machine.Core.{Core}
 use Rattle.rules.specs.Rules.{entryKeeps, cp0Keeps}
 use Rattle.decide.specs.Lent.{Lent}
@@ -32,7 +33,7 @@ pub record RowGood (row : Row) : Type 0 where
 
 -- what is decided from: the core as the tick left it, the registers, the table and the lent bytes
 pub record Sources (core : Core) (pending : ℕ) (regs : List ℕ) (t : List Row) (lent : Lent) : Type 0 where
-  pub words : Below (2 ^ 32) (coreWords core)
+  pub words : Below (2 ^ 32) (keptWords core)
   pub control : ControlGood (core .cp0) pending
   pub registers : Below (2 ^ 32) regs
   pub rows : (i : ℕ) → i < length t → RowGood (getD t i noRow)
@@ -50,7 +51,7 @@ Leaves core pending (TlbRow i row) = RowGood row
 Leaves core pending (Ram at word) = word < 2 ^ 32
 Leaves core pending (DeviceLoad d offset) = Unit {0}
 Leaves core pending (DeviceStore offset word) = word < 2 ^ 32
-Leaves core pending (Raise e) = ControlGood (enteredOf e (core .pc) (core .cp0)) pending
+Leaves core pending (Raise e) = ControlGood (enteredOf e (inSlot core) (returnOf core) (core .cp0)) pending
 
 pub record Proper (core : Core) (pending : ℕ) (d : Decision) : Type 0 where
   pub pc : d .pc < 2 ^ 32

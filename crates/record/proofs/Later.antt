@@ -9,7 +9,7 @@ use lib.Seq.{sets, set-append-left}
 use Rattle.word.specs.Lists.{flat}
 use Rattle.word.specs.Little.{toBytes}
 use Rattle.word.proofs.Lists.{flat-append, sets-whole}
-use Rattle.state.specs.Layout.{coreWords, printerWords}
+use Rattle.state.specs.Layout.{keptWords, printerWords}
 use Rattle.record.specs.declared.Record.{Record}
 use Rattle.record.specs.declared.Saved.{Saved}
 use Rattle.record.specs.Layout.{smallWords, savedWords, unused, layoutOf, recordBytes}
@@ -47,7 +47,7 @@ over-part p old q new e =
 
 -- the words before the saved ones
 abbrev small : Record → List ℕ
-small r = coreWords (r .core) ++ smallWords (r .timer) (r .pending) (r .paper .mask) (r .paper .bytes)
+small r = keptWords (r .core) ++ smallWords (r .timer) (r .pending) (r .paper .mask) (r .paper .bytes)
 
 -- a record's bytes with another saved, as three parts
 abbrev spelt : Record → Saved → List ℕ
@@ -59,22 +59,22 @@ three-parts : (r : Record) → recordBytes r ≡ spelt r (r .saved)
 unfolding recordBytes layoutOf
 three-parts r =
     let rest = flat printerWords (r .printers) ++ unused in
-    ap (flat (toBytes 4)) (sym (append-assoc (coreWords (r .core)) (smallWords (r .timer) (r .pending) (r .paper .mask) (r .paper .bytes)) (savedWords (r .saved) ++ rest)))
+    ap (flat (toBytes 4)) (sym (append-assoc (keptWords (r .core)) (smallWords (r .timer) (r .pending) (r .paper .mask) (r .paper .bytes)) (savedWords (r .saved) ++ rest)))
     ∙ flat-append (toBytes 4) (small r) (savedWords (r .saved) ++ rest)
     ∙ ap (λ (l : List ℕ). flat (toBytes 4) (small r) ++ l) (flat-append (toBytes 4) (savedWords (r .saved)) rest)
 
 pub length-saved-bytes : (s : Saved) → length (flat (toBytes 4) (savedWords s)) ≡ 16
 length-saved-bytes s = omega (arith, length-words (savedWords s), length-saved s)
 
-pub saved-later : (r : Record) (s : Saved) → sets (recordBytes r) 68 (flat (toBytes 4) (savedWords s))
+pub saved-later : (r : Record) (s : Saved) → sets (recordBytes r) 76 (flat (toBytes 4) (savedWords s))
     ≡ recordBytes (record { core = r .core; timer = r .timer; pending = r .pending; paper = r .paper; saved = s; printers = r .printers })
 saved-later r s =
     let old = flat (toBytes 4) (savedWords (r .saved)) in
     let new = flat (toBytes 4) (savedWords s) in
     let rest = flat (toBytes 4) (flat printerWords (r .printers) ++ unused) in
     let front = flat (toBytes 4) (small r) in
-    let place : length front ≡ 68 = length-words (small r) in
-    ap (λ (l : List ℕ). sets l 68 new) (three-parts r)
+    let place : length front ≡ 76 = length-words (small r) in
+    ap (λ (l : List ℕ). sets l 76 new) (three-parts r)
     ∙ ap (λ (n : ℕ). sets (spelt r (r .saved)) n new) (sym place)
     ∙ over-part front old rest new (length-saved-bytes s ∙ sym (length-saved-bytes (r .saved)))
     ∙ sym (three-parts (record { core = r .core; timer = r .timer; pending = r .pending; paper = r .paper; saved = s; printers = r .printers }))

@@ -18,7 +18,7 @@ use Rattle.printer.specs.declared.Printer.{Printer}
 use Rattle.printer.specs.declared.saved.SavedPaper.{SavedPaper}
 use Rattle.printer.specs.Saved.{byteFits, paperFits}
 use Rattle.printer.proofs.Each.{all-hold, each-holds}
-use Rattle.state.specs.Layout.{coreWords, printerWords}
+use Rattle.state.specs.Layout.{keptWords, printerWords}
 use Rattle.record.specs.declared.Record.{Record}
 use Rattle.record.specs.Layout.{smallWords, savedWords, unused, layoutOf, recordBytes}
 use Rattle.record.specs.Keeps.{byteKeeps, paperKeeps, savedRanged, Ranged}
@@ -44,7 +44,7 @@ pub record Parts (r : Record) : Type 0 where
   pub printers : length (r .printers) ≡ 8
   pub eight : length (r .paper .bytes) ≡ 8
   pub bytes : Below 256 (r .paper .bytes)
-  pub core : Below (2 ^ 32) (coreWords (r .core))
+  pub core : Below (2 ^ 32) (keptWords (r .core))
   pub timer : r .timer < 2 ^ 32
   pub pending : r .pending < 2 ^ 32
   pub saved-words : Below (2 ^ 32) (savedWords (r .saved))
@@ -78,7 +78,7 @@ module _ (r : Record) (h : Parts r) where
       let small = smallWords (r .timer) (r .pending) (r .paper .mask) (r .paper .bytes) in
       let saved = savedWords (r .saved) in
       let printers = flat printerWords (r .printers) in
-      below-append (coreWords (r .core)) (small ++ (saved ++ (printers ++ unused))) (h .core)
+      below-append (keptWords (r .core)) (small ++ (saved ++ (printers ++ unused))) (h .core)
       (below-append small (saved ++ (printers ++ unused)) small-words
       (below-append saved (printers ++ unused) (h .saved-words) (below-append printers unused (h .printer-words) zeros)))
 

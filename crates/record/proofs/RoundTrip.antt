@@ -17,7 +17,7 @@ use Rattle.memory.proofs.Cells.{read-written, write-read, cells-small}
 use Rattle.memory.proofs.OneCell.{load-small}
 use Rattle.printer.specs.declared.Printer.{Printer}
 use Rattle.printer.specs.Tick.{noPrinter}
-use Rattle.state.specs.Layout.{coreWords, coreFrom, printerWords}
+use Rattle.state.specs.Layout.{keptWords, coreFrom, printerWords}
 use Rattle.record.specs.declared.Record.{Record}
 use Rattle.record.specs.declared.Saved.{Saved}
 use Rattle.record.specs.declared.Saved.the-variants.{Nothing, Register, TlbRow, RamWord}
@@ -160,21 +160,19 @@ two-words : (a b : ℕ) → a < 2 ^ 32 → b < 2 ^ 32 → let bytes = flat (toBy
 two-words a b ha hb = (read-written 4 (a ∷ b ∷ []) 0 (omega arith) ha, read-written 4 (a ∷ b ∷ []) 1 (omega arith) hb)
 
 -- the layout's words are the words in their order
-in-order : (f : ℕ → ℕ) → f 15 < 2 ^ 32 → f 16 < 2 ^ 32 → wordsKeep f ≡ true → layoutOf (recordAt f) ≡ tabulate 64 f
+in-order : (f : ℕ → ℕ) → f 17 < 2 ^ 32 → f 18 < 2 ^ 32 → wordsKeep f ≡ true → layoutOf (recordAt f) ≡ tabulate 64 f
 unfolding layoutOf recordAt
 in-order f h₁ h₂ e =
     let kept = both _ _ e in
-    let saved = saved-is (f 18) (f 19) (f 20) (f 17) (both _ _ (kept .0) .0) in
-    let bytes = two-words (f 15) (f 16) h₁ h₂ in
-    let rest = both _ _ (kept .1) in
-    let two = both _ _ (rest .0) in
-    let unused : ℕ → ℕ → ℕ → List ℕ = λ x y z. x ∷ y ∷ z ∷ [] in
+    let saved = saved-is (f 20) (f 21) (f 22) (f 19) (both _ _ (kept .0) .0) in
+    let bytes = two-words (f 17) (f 18) h₁ h₂ in
+    let unused : ℕ → List ℕ = λ x. x ∷ [] in
     λ i.
-    coreWords (coreFrom 0 f)
-    ++ ((f 12 ∷ f 13 ∷ f 14 ∷ bytes .0 i ∷ bytes .1 i ∷ [])
+    keptWords (coreFrom 0 12 f)
+    ++ ((f 14 ∷ f 15 ∷ f 16 ∷ bytes .0 i ∷ bytes .1 i ∷ [])
     ++ (saved .words i
     ++ (flat printerWords (tabulate 8 (printerAt f))
-    ++ unused (sym (eqb-true (f 61) 0 (two .0)) i) (sym (eqb-true (f 62) 0 (two .1)) i) (sym (eqb-true (f 63) 0 (rest .1)) i))))
+    ++ unused (sym (eqb-true (f 63) 0 (kept .1)) i))))
 
 -- the parts of a record that is read
 printers-eight : (f : ℕ → ℕ) → length (recordAt f .printers) ≡ 8
@@ -183,11 +181,11 @@ printers-eight f = refl
 
 bytes-eight : (f : ℕ → ℕ) → length (recordAt f .paper .bytes) ≡ 8
 unfolding recordAt
-bytes-eight f = length-words (f 15 ∷ f 16 ∷ [])
+bytes-eight f = length-words (f 17 ∷ f 18 ∷ [])
 
-saved-ranged : (f : ℕ → ℕ) → savedKeeps (f 17) (f 18) (f 19) (f 20) ≡ true → savedRanged (recordAt f .saved) ≡ true
+saved-ranged : (f : ℕ → ℕ) → savedKeeps (f 19) (f 20) (f 21) (f 22) ≡ true → savedRanged (recordAt f .saved) ≡ true
 unfolding recordAt
-saved-ranged f e = saved-is (f 18) (f 19) (f 20) (f 17) e .ranged
+saved-ranged f e = saved-is (f 20) (f 21) (f 22) (f 19) e .ranged
 
 paper-kept : (f : ℕ → ℕ) → paperKeeps (paperAt f) ≡ true → paperKeeps (recordAt f .paper) ≡ true
 unfolding recordAt
@@ -195,7 +193,7 @@ paper-kept f e = e
 
 bytes-small : (f : ℕ → ℕ) → Below 256 (recordAt f .paper .bytes)
 unfolding recordAt
-bytes-small f = cells-small 4 (f 15 ∷ f 16 ∷ [])
+bytes-small f = cells-small 4 (f 17 ∷ f 18 ∷ [])
 
 module _ (b : List ℕ) (long : length b ≡ 256) (bytes : Below 256 b) where
   slot-small : (k : ℕ) → k < 64 → slotWord b k < 2 ^ 32
@@ -204,7 +202,7 @@ module _ (b : List ℕ) (long : length b ≡ 256) (bytes : Below 256 b) where
   module _ (keeps : keepsLayout b ≡ true) where
     ordered : layoutOf (recordAt (slotWord b)) ≡ tabulate 64 (slotWord b)
     unfolding keepsLayout
-    ordered = in-order (slotWord b) (slot-small 15 (omega arith)) (slot-small 16 (omega arith)) keeps
+    ordered = in-order (slotWord b) (slot-small 17 (omega arith)) (slot-small 18 (omega arith)) keeps
 
     pub encode-decode : recordBytes (recordOf b) ≡ b
     unfolding recordBytes recordOf

@@ -21,7 +21,7 @@ pub length-words : (ws : List ℕ) → length (flat (toBytes 4) ws) ≡ 4 * leng
 length-words = length-flat 4 (toBytes 4) (length-to 4)
 
 -- two words stored over eight bytes are what is read of paper
-pub paper-read : (word : ℕ → ℕ) (z : List ℕ) → length z ≡ 8 → {mask a b : ℕ} {bytes : List ℕ} → mask ≡ word 14 → a ≡ word 15 → b ≡ word 16 →
+pub paper-read : (word : ℕ → ℕ) (z : List ℕ) → length z ≡ 8 → {mask a b : ℕ} {bytes : List ℕ} → mask ≡ word 16 → a ≡ word 17 → b ≡ word 18 →
     bytes ≡ sets z 0 (flat (toBytes 4) (a ∷ b ∷ [])) → _≡_ {A = SavedPaper} (record { mask = mask; bytes = bytes }) (paperAt word)
 paper-read word z h {mask} {a} {b} {bytes} e₁ e₂ e₃ e₄ =
     let whole : bytes ≡ flat (toBytes 4) (a ∷ b ∷ []) = e₄ ∙ sets-whole z _ (length-words (a ∷ b ∷ []) ∙ sym h) in

@@ -31,7 +31,7 @@ savedKeeps kind which first second =
     (cond (eqb kind 2) (ltb which tableSize) (cond (eqb kind 3) (eqb (which % 4) 0 && eqb second 0) false)))
 
 abbrev pub restKeeps : (ℕ → ℕ) → Bool
-restKeeps word = eqb (word unusedBase) 0 && eqb (word (unusedBase + 1)) 0 && eqb (word (unusedBase + 2)) 0
+restKeeps word = eqb (word unusedBase) 0
 
 abbrev pub wordsKeep : (ℕ → ℕ) → Bool
 wordsKeep word =

@@ -10,7 +10,7 @@ use Rattle.word.specs.Little.{toBytes}
 use Rattle.memory.specs.Memory.{loadAt}
 use Rattle.printer.specs.declared.Printer.{Printer}
 use Rattle.printer.specs.declared.saved.SavedPaper.{SavedPaper}
-use Rattle.state.specs.Layout.{coreWords, coreFrom, rowWords, rowOf, printerWords, printerFrom}
+use Rattle.state.specs.Layout.{keptWords, coreFrom, rowWords, rowOf, printerWords, printerFrom}
 use Rattle.record.specs.declared.Record.{Record}
 use Rattle.record.specs.declared.Saved.{Saved}
 use Rattle.record.specs.declared.Saved.the-variants.{Nothing, Register, TlbRow, RamWord}
@@ -29,12 +29,12 @@ savedWords (TlbRow i row) = 2 ∷ i ∷ rowWords row
 savedWords (RamWord place old) = 3 ∷ place ∷ old ∷ 0 ∷ []
 
 abbrev pub unused : List ℕ
-unused = 0 ∷ 0 ∷ 0 ∷ []
+unused = 0 ∷ []
 
 -- THE layout: groups of words, one after the other, so that a version adds a group or takes a word that is unused
 abbrev pub groupsOf : Record → List (List ℕ)
 groupsOf r =
-    coreWords (r .core)
+    keptWords (r .core)
     ∷ smallWords (r .timer) (r .pending) (r .paper .mask) (r .paper .bytes)
     ∷ savedWords (r .saved)
     ∷ flat printerWords (r .printers)
@@ -46,7 +46,7 @@ layoutOf r = joined (groupsOf r)
 
 -- the word that each group but the first starts at: behind the group before it
 abbrev pub smallBase : ℕ
-smallBase = 12
+smallBase = 14
 
 abbrev pub savedBase : ℕ
 savedBase = smallBase + 5
@@ -77,7 +77,7 @@ printerAt word i = printerFrom (5 * i + printersBase) word
 unfoldable pub recordAt : (ℕ → ℕ) → Record
 recordAt word =
     record {
-      core = coreFrom 0 word;
+      core = coreFrom 0 12 word;
       timer = word smallBase;
       pending = word (smallBase + 1);
       paper = paperAt word;

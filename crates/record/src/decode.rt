@@ -41,7 +41,7 @@ fn cp0(slot: &[u8]) -> Cp0
 
 fn core(slot: &[u8]) -> Core
     requires { ⌜ length (now slot) ≡ 256 ⌝ }
-    ensures { λ r. ⌜ r ≡ coreFrom 0 (slotWord (now (slot .entry))) ⌝ }
+    ensures { λ r. ⌜ r ≡ coreFrom 0 12 (slotWord (now (slot .entry))) ⌝ }
 {
     Core {
         hi: word(slot, 0),
@@ -49,6 +49,8 @@ fn core(slot: &[u8]) -> Core
         pc: word(slot, 2),
         next_pc: word(slot, 3),
         cp0: cp0(slot),
+        slot: word(slot, 12),
+        branch: word(slot, 13),
     }
 }
 
@@ -56,11 +58,11 @@ pub fn paper(slot: &[u8]) -> SavedPaper
     requires { ⌜ length (now slot) ≡ 256 ⌝ }
     ensures { λ r. ⌜ r ≡ paperAt (slotWord (now (slot .entry))) ⌝ }
 {
-    let words = [word(slot, 15), word(slot, 16)];
+    let words = [word(slot, 17), word(slot, 18)];
     let mut bytes = [0u8; 8];
     put_words(&words, &mut bytes, 0);
     SavedPaper {
-        mask: word(slot, 14),
+        mask: word(slot, 16),
         bytes,
     }
 }
@@ -85,7 +87,7 @@ fn printer(slot: &[u8], i: usize) -> Printer
     requires { ⌜ i < 8 ⌝ }
     ensures { λ r. ⌜ r ≡ printerAt (slotWord (now (slot .entry))) i ⌝ }
 {
-    let at = 5 * i + 21;
+    let at = 5 * i + 23;
     Printer {
         status: word(slot, at),
         command: word(slot, at + 1),
@@ -119,14 +121,14 @@ pub fn decode(slot: &[u8]) -> Record
     ensures { λ r. ⌜ r ≡ recordOf (now (slot .entry)) ⌝ }
 {
     let core = core(slot);
-    let timer = word(slot, 12);
-    let pending = word(slot, 13);
+    let timer = word(slot, 14);
+    let pending = word(slot, 15);
     let paper = paper(slot);
     let saved = saved_by(
-        word(slot, 17),
-        word(slot, 18),
         word(slot, 19),
         word(slot, 20),
+        word(slot, 21),
+        word(slot, 22),
     );
     let printers = printers(slot);
     Record {

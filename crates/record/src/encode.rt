@@ -36,7 +36,7 @@ pub fn saved_words(s: Saved) -> [u32; 4]
 // Lays down the record of what a run holds, each part as the words that it is held as, since this runs at every step. What is saved is known only when the step
 // is decided, so here its words only hold their place. The copies to a local let the compiler move many words at a time.
 pub fn encode(
-    core: &[u32; 12],
+    core: &[u32; 14],
     timer: u32,
     pending: u32,
     paper: SavedPaper,
@@ -44,7 +44,7 @@ pub fn encode(
     slot: &mut [u8],
 )
     requires { ⌜ length (now slot) ≡ 256 ⌝ }
-    requires { ⌜ length (now core) ≡ 12 ⌝ }
+    requires { ⌜ length (now core) ≡ 14 ⌝ }
     requires { ⌜ length (now words) ≡ 40 ⌝ }
     ensures { λ _. ⌜ now (slot .exit) ≡ flat (toBytes 4) (laidOf (now (core .entry)) (smallWords timer pending (paper .mask) (paper .bytes)) (now (words .entry))) ⌝ }
 {
@@ -52,11 +52,11 @@ pub fn encode(
     let small = small_words(timer, pending, paper.mask, bytes);
     let first = *core;
     put_words(&first, slot, 0);
-    put_words(&small, slot, 48);
+    put_words(&small, slot, 56);
     let saved = [0u32; 4];
-    put_words(&saved, slot, 68);
+    put_words(&saved, slot, 76);
     let printers = *words;
-    put_words(&printers, slot, 84);
-    let rest = [0u32; 3];
-    put_words(&rest, slot, 244);
+    put_words(&printers, slot, 92);
+    let rest = [0u32; 1];
+    put_words(&rest, slot, 252);
 }

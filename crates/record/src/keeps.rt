@@ -36,7 +36,7 @@ fn rest_keeps(slot: &[u8]) -> bool
     requires { ⌜ length (now slot) ≡ 256 ⌝ }
     ensures { λ r. ⌜ r ≡ restKeeps (slotWord (now (slot .entry))) ⌝ }
 {
-    (word(slot, 61) == 0) & (word(slot, 62) == 0) & (word(slot, 63) == 0)
+    word(slot, 63) == 0
 }
 
 pub fn keeps_layout(slot: &[u8]) -> bool
@@ -44,10 +44,10 @@ pub fn keeps_layout(slot: &[u8]) -> bool
     ensures { λ r. ⌜ r ≡ keepsLayout (now (slot .entry)) ⌝ }
 {
     saved_keeps(
-        word(slot, 17),
-        word(slot, 18),
         word(slot, 19),
         word(slot, 20),
+        word(slot, 21),
+        word(slot, 22),
     )
         & paper_keeps(paper(slot))
         & rest_keeps(slot)

@@ -13,14 +13,14 @@ use Rattle.answer.specs.declared.Answer.the-variants.{Done, Refused}
 use Rattle.reset.specs.Reset.{resetAnswer}
 
 module _ (b : List ℕ) (s d i : ℕ) where
-  pub says-bad-length : (length b ≡ 501 → ⊥) → resetAnswer b s d i ≡ Refused Image
-  says-bad-length h = rw (ne-eqb (length b) 501 h)
+  pub says-bad-length : (length b ≡ 509 → ⊥) → resetAnswer b s d i ≡ Refused Image
+  says-bad-length h = rw (ne-eqb (length b) 509 h)
 
-  pub says-bad-range : length b ≡ 501 → rangesKeep s d i ≡ false → resetAnswer b s d i ≡ Refused Range
-  says-bad-range h r = rw (eq-eqb (length b) 501 h) (rw r)
+  pub says-bad-range : length b ≡ 509 → rangesKeep s d i ≡ false → resetAnswer b s d i ≡ Refused Range
+  says-bad-range h r = rw (eq-eqb (length b) 509 h) (rw r)
 
-  pub says-done : length b ≡ 501 → rangesKeep s d i ≡ true → resetAnswer b s d i ≡ Done 0 NoReason
-  says-done h r = rw (eq-eqb (length b) 501 h) (rw r)
+  pub says-done : length b ≡ 509 → rangesKeep s d i ≡ true → resetAnswer b s d i ≡ Done 0 NoReason
+  says-done h r = rw (eq-eqb (length b) 509 h) (rw r)
 
 pub record InRange (s d i : ℕ) : Type 0 where
   pub scale-low : 1 ≤ s

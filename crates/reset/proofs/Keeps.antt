@@ -12,7 +12,7 @@ use Rattle.word.specs.Map.{bit}
 use Rattle.word.proofs.Cond.{and-true}
 use Rattle.word.proofs.Lists.{below-append, below-numerals, below-flat}
 use Rattle.printer.specs.Rules.{printerKeeps, presentKeeps, lineKeeps}
-use Rattle.state.specs.Layout.{coreWords, rowWords, clockWords, settingsWords, printerWords, journalWords, wordsOf, bytesOf, WellTyped}
+use Rattle.state.specs.Layout.{coreWords, slotWords, rowWords, clockWords, settingsWords, printerWords, journalWords, wordsOf, bytesOf, WellTyped}
 use Rattle.rules.specs.Rules.{rangesKeep, journalKeeps, stateKeeps, machineKeeps, goodImage}
 use Rattle.rules.proofs.Good.{encoded-good}
 use Rattle.reset.specs.Reset.{freshPrinter, resetCpu, resetBoard, resetMachine}
@@ -54,7 +54,7 @@ module _ (scale delay installed : ℕ) (r : InRange scale delay installed) where
       let m = resetMachine scale delay installed in
       let front = drop 1 (m .cpu .regs) ++ (coreWords (m .cpu .core) ++ (flat rowWords (m .cpu .tlb) ++ clockWords (m .board .clock))) in
       let printers = flat printerWords (m .board .line .printers) in
-      let last = m .board .line .pending ∷ journalWords (m .journal) in
+      let last = m .board .line .pending ∷ (journalWords (m .journal) ++ slotWords (m .cpu .core)) in
       below-append front (settingsWords (m .board .settings) ++ (printers ++ last)) (below-numerals front refl)
       (below-append (settingsWords (m .board .settings)) (printers ++ last) settings
       (below-append printers last
@@ -69,7 +69,7 @@ pub machine-keeps : (scale delay installed : ℕ) → rangesKeep scale delay ins
     machineKeeps (resetMachine scale delay installed) paper journal ≡ true
 unfolding machineKeeps stateKeeps resetMachine resetCpu resetBoard
 machine-keeps scale delay installed e paper journal =
-    and-true (and-true (and-true refl e) (line-keeps scale delay installed (paper / 8))) (journal-keeps (journal / 256))
+    and-true (and-true (and-true (and-true refl e) (line-keeps scale delay installed (paper / 8))) refl) (journal-keeps (journal / 256))
 
 pub reset-keeps : (scale delay installed : ℕ) → rangesKeep scale delay installed ≡ true → (paper journal : ℕ) →
     goodImage (bytesOf (resetMachine scale delay installed)) paper journal ≡ true

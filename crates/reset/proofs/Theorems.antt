@@ -31,25 +31,25 @@ module _ (b : List ℕ) (s d i : ℕ) where
   number = numberOf (resetAnswer b s d i)
 
   -- each number is answered exactly when its condition holds and no lower number's does
-  pub number-5 : (number ≡ 5) ↔ (length b ≡ 501 → ⊥)
+  pub number-5 : (number ≡ 5) ↔ (length b ≡ 509 → ⊥)
   number-5 = (
-    λ e. eqb-false (length b) 501 (by-number (eqb (length b) 501) (rangesKeep s d i) .1 .0 e),
+    λ e. eqb-false (length b) 509 (by-number (eqb (length b) 509) (rangesKeep s d i) .1 .0 e),
     λ h. ap numberOf (says-bad-length b s d i h),
   )
 
-  pub number-6 : (number ≡ 6) ↔ ((length b ≡ 501) × (rangesKeep s d i ≡ false))
+  pub number-6 : (number ≡ 6) ↔ ((length b ≡ 509) × (rangesKeep s d i ≡ false))
   number-6 = (
     λ e.
-        let t = by-number (eqb (length b) 501) (rangesKeep s d i) .1 .1 e in
-        (eqb-true (length b) 501 (t .0), t .1),
+        let t = by-number (eqb (length b) 509) (rangesKeep s d i) .1 .1 e in
+        (eqb-true (length b) 509 (t .0), t .1),
     λ h. ap numberOf (says-bad-range b s d i (h .0) (h .1)),
   )
 
-  pub number-0 : (number ≡ 0) ↔ ((length b ≡ 501) × (rangesKeep s d i ≡ true))
+  pub number-0 : (number ≡ 0) ↔ ((length b ≡ 509) × (rangesKeep s d i ≡ true))
   number-0 = (
     λ e.
-        let t = by-number (eqb (length b) 501) (rangesKeep s d i) .0 e in
-        (eqb-true (length b) 501 (t .0), t .1),
+        let t = by-number (eqb (length b) 509) (rangesKeep s d i) .0 e in
+        (eqb-true (length b) 509 (t .0), t .1),
     λ h. ap numberOf (says-done b s d i (h .0) (h .1)),
   )
 
@@ -66,7 +66,7 @@ module _ (b : List ℕ) (s d i : ℕ) where
 
   -- done or refused, a reset reports no steps and no reason
   pub no-steps : (stepsOf (resetAnswer b s d i) ≡ 0) × (reasonOf (resetAnswer b s d i) ≡ 0)
-  no-steps = by (eqb (length b) 501) (rangesKeep s d i)
+  no-steps = by (eqb (length b) 509) (rangesKeep s d i)
     where
       by : (x y : Bool) → let a = cond x (cond y (Done 0 NoReason) (Refused Range)) (Refused Image) in (stepsOf a ≡ 0) × (reasonOf a ≡ 0)
       by true true = (refl, refl)

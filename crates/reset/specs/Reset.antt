@@ -48,6 +48,8 @@ resetCpu =
                   cause = 0;
                   epc = 0;
                 };
+            slot = 0;
+            branch = 0;
           };
       tlb = replicate tableSize noRow;
     }
@@ -70,7 +72,7 @@ resetMachine scale delay installed =
 
 -- ---- the call
 
--- the lowest number that applies: 5, "image is not 501 bytes", 6 for the ranges
+-- the lowest number that applies: 5 for another length of the image, 6 for the ranges
 abbrev pub resetAnswer : List ℕ → ℕ → ℕ → ℕ → Answer
 resetAnswer image scale delay installed =
     cond (eqb (length image) imageLength) (cond (rangesKeep scale delay installed) (Done 0 NoReason) (Refused Range)) (Refused Image)

@@ -67,6 +67,8 @@ fn reset_cpu() -> Cpu
         pc: 0x1FC0_0000,
         next_pc: 0x1FC0_0004,
         cp0,
+        slot: 0,
+        branch: 0,
     };
     let empty = Row { high: 0, low: 0 };
     let tlb = [empty; 16];

@@ -1,4 +1,4 @@
--- Document 01, "The state image", paragraph "Rules", rule by rule in its order.
+-- Document 01, "The state image", paragraph "Rules", rule by rule in its order, and what request L2 adds.
 use Prim.Native.Nat.{ℕ, _+_, _/_, _%_, _^_}
 use mathlib.Core.Bool.{Bool, not, _&&_, _||_, Bool·beq}
 use mathlib.Core.List.{List}
@@ -19,11 +19,11 @@ use Rattle.tlb.specs.Entry.{noRow}
 use Rattle.printer.specs.Rules.{lineKeeps}
 use Rattle.state.specs.declared.machine.Machine.{Machine}
 use Rattle.state.specs.declared.machine.Journal.{Journal}
-use Rattle.state.specs.Layout.{bodyLength, imageLength, machineOf}
+use Rattle.state.specs.Layout.{bodyLength, imageLength, imageVersion, machineOf}
 
--- "length word 497, version 1"
+-- the length word and the version: document 02, L2, makes version 2 of them
 abbrev pub headerKeeps : List ℕ → Bool
-headerKeeps image = eqb (wordAt image 0) bodyLength && eqb (getD image 4 0) 1
+headerKeeps image = eqb (wordAt image 0) bodyLength && eqb (getD image 4 0) imageVersion
 
 -- IP[k]
 abbrev pub ip : ℕ → ℕ → Bool
@@ -59,6 +59,10 @@ tlbKeeps rows = every tableSize (rowKeeps rows)
 abbrev pub rangesKeep : ℕ → ℕ → ℕ → Bool
 rangesKeep scale delay installed = between 1 255 scale && between 1 65535 delay && leb installed 255
 
+-- document 02, L2: "a flag and the branch's address (0 if the flag is 0)"
+abbrev pub slotKeeps : ℕ → ℕ → Bool
+slotKeeps slot branch = eqb slot 0 && eqb branch 0 || eqb slot 1
+
 -- "on hand at most journal length / 256; next slot below that number, or 0 if it is 0"
 abbrev pub journalKeeps : Journal → ℕ → Bool
 journalKeeps j slots = leb (j .«on_hand») slots && (ltb (j .«next_slot») slots || eqb slots 0 && eqb (j .«next_slot») 0)
@@ -69,6 +73,7 @@ stateKeeps m paper =
     cp0Keeps (m .cpu .core .cp0) (m .board .line .pending) && tlbKeeps (m .cpu .tlb)
     && rangesKeep (m .board .settings .scale) (m .board .settings .delay) (m .board .settings .installed)
     && lineKeeps (m .board .settings .installed) (m .board .settings .delay) (paper / devices) (m .board .line)
+    && slotKeeps (m .cpu .core .slot) (m .cpu .core .branch)
 
 unfoldable pub machineKeeps : Machine → ℕ → ℕ → Bool
 machineKeeps m paper journal = stateKeeps m paper && journalKeeps (m .journal) (journal / recordSize)
@@ -77,6 +82,6 @@ machineKeeps m paper journal = stateKeeps m paper && journalKeeps (m .journal) (
 unfoldable pub keepsRules : List ℕ → ℕ → ℕ → Bool
 keepsRules image paper journal = headerKeeps image && machineKeeps (machineOf image) paper journal
 
--- an image that refusal 5 does not meet: "image is not 501 bytes, or .. breaks a rule below"
+-- an image that refusal 5 does not meet: another length, or it "breaks a rule below"
 abbrev pub goodImage : List ℕ → ℕ → ℕ → Bool
 goodImage image paper journal = eqb (length image) imageLength && keepsRules image paper journal

@@ -2,7 +2,7 @@
 ghost use mathlib.Core.Path.{_≡_};
 ghost use lib.ListN.{length};
 ghost use Rattle.state.specs.Layout.{machineOf};
-ghost use Rattle.rules.specs.Rules.{headerKeeps, causeKeeps, randomKeeps, entryKeeps, cp0Keeps, tlbKeeps, rangesKeep, journalKeeps, stateKeeps, machineKeeps, keepsRules};
+ghost use Rattle.rules.specs.Rules.{headerKeeps, causeKeeps, randomKeeps, entryKeeps, cp0Keeps, tlbKeeps, rangesKeep, journalKeeps, slotKeeps, stateKeeps, machineKeeps, keepsRules};
 use cp0::registers::Cp0;
 use printer::rules::line_keeps;
 use state::decode::decode;
@@ -30,7 +30,7 @@ pub struct Verdict {
 }
 
 pub fn judged(image: &[u8], paper: usize, journal: usize) -> Verdict
-    requires { ⌜ length (now image) ≡ 501 ⌝ }
+    requires { ⌜ length (now image) ≡ 509 ⌝ }
     ensures { λ r. ⌜ r ≡ record { keeps = keepsRules (now (image .entry)) paper journal; machine = machineOf (now (image .entry)) } ⌝ }
 {
     let machine = decode(image);
@@ -39,10 +39,10 @@ pub fn judged(image: &[u8], paper: usize, journal: usize) -> Verdict
 }
 
 fn header_keeps(image: &[u8]) -> bool
-    requires { ⌜ length (now image) ≡ 501 ⌝ }
+    requires { ⌜ length (now image) ≡ 509 ⌝ }
     ensures { λ r. ⌜ r ≡ headerKeeps (now (image .entry)) ⌝ }
 {
-    (word_at(image, 0) == 497) & (image[4] == 1)
+    (word_at(image, 0) == 505) & (image[4] == 2)
 }
 
 pub fn machine_keeps(m: Machine, paper: usize, journal: usize) -> bool
@@ -65,6 +65,13 @@ pub fn state_keeps(m: Machine, paper: usize) -> bool
         & tlb_keeps(tlb)
         & ranges_keep(s.scale as u64, s.delay as u64, s.installed as u64)
         & line_keeps(line, s.installed, s.delay, paper / 8)
+        & slot_keeps(core.slot, core.branch)
+}
+
+fn slot_keeps(slot: u32, branch: u32) -> bool
+    ensures { λ r. ⌜ r ≡ slotKeeps slot branch ⌝ }
+{
+    (slot == 0) & (branch == 0) | (slot == 1)
 }
 
 fn cp0_keeps(p: Cp0, pending: u32) -> bool

@@ -26,7 +26,7 @@ module _ (m : Machine) (eight : length (m .board .line .printers) ≡ 8) (sixtee
   opened-ready b is fits =
       rw is
       (record {
-        twelve = refl;
+        fourteen = refl;
         table = sixteen;
         told =
             record {

@@ -10,7 +10,7 @@ use Rattle.ring.specs.Run as ring
 use Rattle.journal.specs.Journal.{slotsOf, ringOf}
 use Rattle.journal.specs.Journal as slots
 use Rattle.printer.specs.Tick.{anyBusy}
-use Rattle.state.specs.Layout.{coreWords, printerWords}
+use Rattle.state.specs.Layout.{keptWords, printerWords}
 use Rattle.state.specs.declared.machine.Machine.{Machine}
 use Rattle.state.specs.declared.machine.Settings.{Settings}
 use Rattle.decide.specs.Lent.{Whole}
@@ -28,7 +28,7 @@ use Rattle.run.specs.declared.Spun.{Spun}
 abbrev pub partsOf : Machine → Parts
 partsOf m =
     record {
-      core = coreWords (m .cpu .core);
+      core = keptWords (m .cpu .core);
       held = record { clock = m .board .clock; pending = m .board .line .pending; busy = anyBusy (m .board .line .printers) };
       regs = m .cpu .regs;
       rows = m .cpu .tlb;
@@ -48,7 +48,7 @@ abbrev pub configOf : (roms : Roms) → Settings → Parts → Beside → Config
 configOf roms settings p b = record { state = worldHeld p settings b; ring = ringOf (p .mark) (b .journal) }
 
 pub record Ready (p : Parts) (b : Beside) : Type 0 where
-  pub twelve : length (p .core) ≡ 12
+  pub fourteen : length (p .core) ≡ 14
   pub table : length (p .rows) ≡ tableSize
   pub told : Told (p .held) (p .words)
   pub whole : Whole (lentFrom b)

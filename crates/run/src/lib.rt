@@ -8,6 +8,7 @@ use decide::effect::Effect;
 use decide::step::decide;
 use held::Held;
 use held::core::core_in;
+use held::core::core_words;
 use held::packed;
 use held::unpacked;
 use look::Stop;
@@ -15,7 +16,6 @@ use look::looked;
 use look::next_look;
 use printer::Line;
 use printer::tick::any_busy;
-use state::encode::core_words;
 use state::machine::Board;
 use state::machine::Cpu;
 use state::machine::Machine;
@@ -77,8 +77,8 @@ fn closed(parts: Parts, settings: Settings) -> Machine
         pending: held.pending,
     };
     let regs = parts.regs;
-    let twelve = parts.core;
-    let core = core_in(&twelve);
+    let fourteen = parts.core;
+    let core = core_in(&fourteen);
     let tlb = parts.rows;
     let journal = parts.mark;
     Machine {

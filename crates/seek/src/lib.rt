@@ -51,13 +51,13 @@ fn word_before(slot: &[u8], place: u32, after: u32) -> u32
     requires { ⌜ length (now slot) ≡ 256 ⌝ }
     ensures { λ r. ⌜ r ≡ wordBefore place (writesOf (now (slot .entry))) after ⌝ }
 {
-    if word(slot, 17) != 3 {
+    if word(slot, 19) != 3 {
         return after;
     }
-    if word(slot, 18) != place {
+    if word(slot, 20) != place {
         return after;
     }
-    word(slot, 19)
+    word(slot, 21)
 }
 
 fn pc_at(journal: &[u8], next: u32, k: u32) -> u32

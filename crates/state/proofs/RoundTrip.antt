@@ -18,12 +18,12 @@ use Rattle.state.specs.Layout.{wordsOf, header, bytesOf, bodyWord, machi
 use Rattle.state.proofs.Stored.{length-words}
 
 -- the layout's words are the words in their order
-in-order : (f : ℕ → ℕ) → wordsOf (machineAt f) ≡ tabulate 124 f
+in-order : (f : ℕ → ℕ) → wordsOf (machineAt f) ≡ tabulate 126 f
 unfolding wordsOf machineAt
 in-order f = refl
 
--- only the first 124 words are read
-read-from-list : (f : ℕ → ℕ) → machineAt f ≡ machineAt (λ (k : ℕ). getD (tabulate 124 f) k 0)
+-- only the first 126 words are read
+read-from-list : (f : ℕ → ℕ) → machineAt f ≡ machineAt (λ (k : ℕ). getD (tabulate 126 f) k 0)
 unfolding machineAt
 read-from-list f = refl
 
@@ -81,29 +81,29 @@ unfolding bytesOf machineOf
 decode-encode m t =
     let ws = wordsOf m in
     let f = bodyWord (flat wordBytes ws) in
-    let words : tabulate 124 f ≡ ws =
-    tabulate-ext 124 f (λ (k : ℕ). getD ws k 0) (λ k h. read-written ws k (omega (arith, length-words m (t .sized))) (t .small k (omega (arith, length-words m (t .sized)))))
+    let words : tabulate 126 f ≡ ws =
+    tabulate-ext 126 f (λ (k : ℕ). getD ws k 0) (λ k h. read-written ws k (omega (arith, length-words m (t .sized))) (t .small k (omega (arith, length-words m (t .sized)))))
     ∙ (rw (length-words m (t .sized)) at (tabulate-getD ws 0)) in
     read-from-list f ∙ ap (λ (l : List ℕ). machineAt (λ (k : ℕ). getD l k 0)) words ∙ read-whole m (t .sized) (t .zero)
 
 -- What was decoded is encoded to the same bytes.
-pub encode-decode : (b : List ℕ) → length b ≡ 501 → take 5 b ≡ header → Below 256 b → bytesOf (machineOf b) ≡ b
+pub encode-decode : (b : List ℕ) → length b ≡ 509 → take 5 b ≡ header → Below 256 b → bytesOf (machineOf b) ≡ b
 unfolding bytesOf machineOf
 encode-decode b l h small =
     let body = drop 5 b in
-    let long : length body ≡ 496 = simp length-drop (omega arith) in
-    let written : flat wordBytes (tabulate 124 (bodyWord body)) ≡ body =
-    write-read 124 body (omega arith) (part-below 5 b small) ∙ take-all 496 body (omega arith) in
+    let long : length body ≡ 504 = simp length-drop (omega arith) in
+    let written : flat wordBytes (tabulate 126 (bodyWord body)) ≡ body =
+    write-read 126 body (omega arith) (part-below 5 b small) ∙ take-all 504 body (omega arith) in
     ap (λ (ws : List ℕ). header ++ flat wordBytes ws) (in-order (bodyWord body))
     ∙ ap (λ (l : List ℕ). header ++ l) written ∙ ap (λ (l : List ℕ). l ++ body) (sym h) ∙ take-append-drop 5 b
 
 -- What is decoded is well typed, so that it can be encoded again.
-pub decoded-typed : (b : List ℕ) → length b ≡ 501 → Below 256 b → WellTyped (machineOf b)
+pub decoded-typed : (b : List ℕ) → length b ≡ 509 → Below 256 b → WellTyped (machineOf b)
 unfolding machineOf machineAt
 decoded-typed b l small =
     let body = drop 5 b in
     let f = bodyWord body in
     let bytes : Below 256 body = part-below 5 b small in
-    let words : Below (2 ^ 32) (tabulate 124 f) =
-    λ i h. rw (getD-tabulate 124 f i 0 h) (word-small body (4 * i) bytes) in
+    let words : Below (2 ^ 32) (tabulate 126 f) =
+    λ i h. rw (getD-tabulate 126 f i 0 h) (word-small body (4 * i) bytes) in
     record { sized = record { regs = refl; tlb = refl; printers = refl }; zero = refl; small = subst (Below (2 ^ 32)) (sym (in-order f)) words }

@@ -9,7 +9,7 @@ use Rattle.word.specs.Lists.{flat}
 use Rattle.word.specs.Big.{wordBytes}
 use Rattle.word.proofs.Lists.{length-flat, flat-append, sets-two}
 use Rattle.state.specs.declared.machine.Machine.{Machine}
-use Rattle.state.specs.Layout.{coreWords, rowWords, clockWords, settingsWords, printerWords, journalWords, wordsOf, header, bytesOf, Sized}
+use Rattle.state.specs.Layout.{coreWords, rowWords, clockWords, settingsWords, printerWords, journalWords, slotWords, wordsOf, header, bytesOf, Sized}
 
 -- the words up to the translation table's, and the rest
 abbrev front : Machine → List ℕ
@@ -18,7 +18,7 @@ front m = drop 1 (m .cpu .regs) ++ (coreWords (m .cpu .core) ++ flat rowWords (m
 abbrev back : Machine → List ℕ
 back m =
     (clockWords (m .board .clock) ++ settingsWords (m .board .settings))
-    ++ (flat printerWords (m .board .line .printers) ++ (m .board .line .pending ∷ journalWords (m .journal)))
+    ++ (flat printerWords (m .board .line .printers) ++ (m .board .line .pending ∷ (journalWords (m .journal) ++ slotWords (m .cpu .core))))
 
 halves : (m : Machine) → wordsOf m ≡ front m ++ back m
 unfolding wordsOf
@@ -30,20 +30,20 @@ module _ (m : Machine) (s : Sized m) where
       let rows = length-flat 2 rowWords (λ r. refl) (m .cpu .tlb) in
       simp (length-append, length-drop) (omega (arith, rows, s .regs, s .tlb))
 
-  length-back : length (back m) ≡ 49
+  length-back : length (back m) ≡ 51
   length-back =
       let printers = length-flat 5 printerWords (λ p. refl) (m .board .line .printers) in
       simp (length-append) (omega (arith, printers, s .printers))
 
-  pub length-words : length (wordsOf m) ≡ 124
+  pub length-words : length (wordsOf m) ≡ 126
   length-words = rw (halves m, length-append (front m) (back m), length-front, length-back)
 
-  pub length-image : length (bytesOf m) ≡ 501
+  pub length-image : length (bytesOf m) ≡ 509
   unfolding bytesOf
   length-image = omega (arith, length-flat 4 wordBytes (λ w. refl) (wordsOf m), length-words)
 
   -- the front stored at the start, and the back after it
-  stored-halves : (b : List ℕ) → length b ≡ 501 →
+  stored-halves : (b : List ℕ) → length b ≡ 509 →
       sets (sets b 0 (header ++ flat wordBytes (front m))) 305 (flat wordBytes (back m)) ≡ bytesOf m
   unfolding bytesOf
   stored-halves b h =
@@ -54,10 +54,10 @@ module _ (m : Machine) (s : Sized m) where
       sets-two b us vs 305 long (ap length whole ∙ length-image ∙ sym h) ∙ whole
 
   -- the same, of the parts that `encode` makes one by one
-  pub stored : (b : List ℕ) → length b ≡ 501 → {core rows clock printers last b₁ b₂ : List ℕ} →
+  pub stored : (b : List ℕ) → length b ≡ 509 → {core rows clock printers last b₁ b₂ : List ℕ} →
       core ≡ coreWords (m .cpu .core) → rows ≡ flat rowWords (m .cpu .tlb) →
       clock ≡ clockWords (m .board .clock) ++ settingsWords (m .board .settings) →
-      printers ≡ flat printerWords (m .board .line .printers) → last ≡ m .board .line .pending ∷ journalWords (m .journal) →
+      printers ≡ flat printerWords (m .board .line .printers) → last ≡ m .board .line .pending ∷ (journalWords (m .journal) ++ slotWords (m .cpu .core)) →
       b₁ ≡ sets b 0 (header ++ flat wordBytes (drop 1 (m .cpu .regs) ++ (core ++ rows))) →
       b₂ ≡ sets b₁ 305 (flat wordBytes (clock ++ (printers ++ last))) → b₂ ≡ bytesOf m
   stored b h e₁ e₂ e₃ e₄ e₅ e₆ e₇ = e₇ ∙ rw (e₆, e₁, e₂, e₃, e₄, e₅) (stored-halves b h)

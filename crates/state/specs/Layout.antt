@@ -1,4 +1,4 @@
--- The layout of document 01's state image. `wordsOf` is the paragraph "The state image"; `machineAt` reads it back, and
+-- The layout of the state image, version 2: document 01's, and what request L2 adds. `wordsOf` is the paragraph "The state image"; `machineAt` reads it back, and
 -- proofs/RoundTrip.antt shows that the two agree.
 use Prim.Native.Nat.{ℕ, _+_, _*_, _^_}
 use mathlib.Core.List.{List, [], _∷_, _++_}
@@ -42,9 +42,26 @@ cp0From base word =
 abbrev pub coreWords : Core → List ℕ
 coreWords c = c .hi ∷ c .lo ∷ c .pc ∷ c .«next_pc» ∷ cp0Words (c .cp0)
 
-abbrev pub coreFrom : ℕ → (ℕ → ℕ) → Core
-coreFrom base word =
-    record { hi = word base; lo = word (base + 1); pc = word (base + 2); «next_pc» = word (base + 3); cp0 = cp0From (base + 4) word }
+-- document 02, L2: "a flag and the branch's address"
+abbrev pub slotWords : Core → List ℕ
+slotWords c = c .slot ∷ c .branch ∷ []
+
+-- all of them, as a record keeps them
+abbrev pub keptWords : Core → List ℕ
+keptWords c = coreWords c ++ slotWords c
+
+-- in the image the two stand apart from the others: `slotBase` is the word that they start at
+abbrev pub coreFrom : ℕ → ℕ → (ℕ → ℕ) → Core
+coreFrom base slotBase word =
+    record {
+      hi = word base;
+      lo = word (base + 1);
+      pc = word (base + 2);
+      «next_pc» = word (base + 3);
+      cp0 = cp0From (base + 4) word;
+      slot = word slotBase;
+      branch = word (slotBase + 1);
+    }
 
 -- "(high, low)"
 abbrev pub rowWords : Row → List ℕ
@@ -102,6 +119,8 @@ groupsOf m =
     -- "pending map"
     ∷ (m .board .line .pending ∷ [])
     ∷ journalWords (m .journal)
+    -- document 02, L2: "The image gains a flag and the branch's address"
+    ∷ slotWords (m .cpu .core)
     ∷ []
 
 unfoldable pub wordsOf : Machine → List ℕ
@@ -129,21 +148,31 @@ pendingBase = printersBase + 5 * devices
 abbrev pub journalBase : ℕ
 journalBase = pendingBase + 1
 
--- 124 words
+abbrev pub slotBase : ℕ
+slotBase = journalBase + 2
+
+-- 126 words
 abbrev pub imageWords : ℕ
-imageWords = journalBase + 2
+imageWords = slotBase + 2
 
--- "497, the bytes after it": the version byte and the words
+-- the bytes after the length word, of an image of so many words: the version byte and the words
+abbrev pub bodyOf : ℕ → ℕ
+bodyOf words = 1 + 4 * words
+
+-- the length word: 505
 abbrev pub bodyLength : ℕ
-bodyLength = 1 + 4 * imageWords
+bodyLength = bodyOf imageWords
 
--- 501 bytes
+-- 509 bytes
 abbrev pub imageLength : ℕ
 imageLength = 4 + bodyLength
 
--- "a length word (497, the bytes after it), a version byte (1)"
+abbrev pub imageVersion : ℕ
+imageVersion = 2
+
+-- "a length word .., a version byte"
 abbrev pub header : List ℕ
-header = wordBytes bodyLength ++ (1 ∷ [])
+header = wordBytes bodyLength ++ (imageVersion ∷ [])
 
 unfoldable pub bytesOf : Machine → List ℕ
 bytesOf m = header ++ flat wordBytes (wordsOf m)
@@ -154,7 +183,7 @@ abbrev pub rowAt : (ℕ → ℕ) → ℕ → Row
 rowAt word i = rowFrom (2 * i + tableBase) word
 
 abbrev pub cpuAt : (ℕ → ℕ) → Cpu
-cpuAt word = record { regs = 0 ∷ tabulate coreBase word; core = coreFrom coreBase word; tlb = tabulate tableSize (rowAt word) }
+cpuAt word = record { regs = 0 ∷ tabulate coreBase word; core = coreFrom coreBase slotBase word; tlb = tabulate tableSize (rowAt word) }
 
 abbrev pub printerAt : (ℕ → ℕ) → ℕ → Printer
 printerAt word i = printerFrom (5 * i + printersBase) word

@@ -1,10 +1,10 @@
-// From bytes to a machine. `body` is the 496 bytes after the length word and the version.
+// From bytes to a machine. `body` is the 504 bytes after the length word and the version.
 ghost use mathlib.Core.Path.{_≡_};
 ghost use Prim.Native.Nat.{_+_, _<_};
 ghost use lib.ListN.{length};
 ghost use mathlib.Core.List.{_∷_};
 ghost use Rattle.word.specs.Lists.{tabulate};
-ghost use Rattle.state.specs.Layout.{cp0From, coreFrom, clockFrom, settingsFrom, journalFrom, coreBase, clockBase, settingsBase, journalBase, bodyWord, rowAt, cpuAt, printerAt, lineAt, boardAt, machineAt, machineOf};
+ghost use Rattle.state.specs.Layout.{cp0From, coreFrom, clockFrom, settingsFrom, journalFrom, coreBase, clockBase, settingsBase, journalBase, slotBase, bodyWord, rowAt, cpuAt, printerAt, lineAt, boardAt, machineAt, machineOf};
 use crate::machine::Board;
 use crate::machine::Core;
 use crate::machine::Cpu;
@@ -18,15 +18,15 @@ use printer::Printer;
 use tlb::Row;
 
 fn word(body: &[u8], k: usize) -> u32
-    requires { ⌜ length (now body) ≡ 496 ⌝ }
-    requires { ⌜ k < 124 ⌝ }
+    requires { ⌜ length (now body) ≡ 504 ⌝ }
+    requires { ⌜ k < 126 ⌝ }
     ensures { λ r. ⌜ r ≡ bodyWord (now (body .entry)) k ⌝ }
 {
     word::big::word_at(body, 4 * k)
 }
 
 fn registers(body: &[u8]) -> [u32; 32]
-    requires { ⌜ length (now body) ≡ 496 ⌝ }
+    requires { ⌜ length (now body) ≡ 504 ⌝ }
     ensures { λ r. ⌜ r ≡ 0 ∷ tabulate 31 (bodyWord (now (body .entry))) ⌝ }
 {
     let mut regs = [0u32; 32];
@@ -35,7 +35,7 @@ fn registers(body: &[u8]) -> [u32; 32]
 }
 
 fn cp0(body: &[u8]) -> Cp0
-    requires { ⌜ length (now body) ≡ 496 ⌝ }
+    requires { ⌜ length (now body) ≡ 504 ⌝ }
     ensures { λ r. ⌜ r ≡ cp0From (coreBase + 4) (bodyWord (now (body .entry))) ⌝ }
 {
     Cp0 {
@@ -51,8 +51,8 @@ fn cp0(body: &[u8]) -> Cp0
 }
 
 fn core(body: &[u8]) -> Core
-    requires { ⌜ length (now body) ≡ 496 ⌝ }
-    ensures { λ r. ⌜ r ≡ coreFrom coreBase (bodyWord (now (body .entry))) ⌝ }
+    requires { ⌜ length (now body) ≡ 504 ⌝ }
+    ensures { λ r. ⌜ r ≡ coreFrom coreBase slotBase (bodyWord (now (body .entry))) ⌝ }
 {
     Core {
         hi: word(body, 31),
@@ -60,11 +60,13 @@ fn core(body: &[u8]) -> Core
         pc: word(body, 33),
         next_pc: word(body, 34),
         cp0: cp0(body),
+        slot: word(body, 124),
+        branch: word(body, 125),
     }
 }
 
 fn row(body: &[u8], i: usize) -> Row
-    requires { ⌜ length (now body) ≡ 496 ⌝ }
+    requires { ⌜ length (now body) ≡ 504 ⌝ }
     requires { ⌜ i < 16 ⌝ }
     ensures { λ r. ⌜ r ≡ rowAt (bodyWord (now (body .entry))) i ⌝ }
 {
@@ -76,7 +78,7 @@ fn row(body: &[u8], i: usize) -> Row
 }
 
 fn tlb(body: &[u8]) -> [Row; 16]
-    requires { ⌜ length (now body) ≡ 496 ⌝ }
+    requires { ⌜ length (now body) ≡ 504 ⌝ }
     ensures { λ r. ⌜ r ≡ tabulate 16 (rowAt (bodyWord (now (body .entry)))) ⌝ }
 {
     let empty = Row { high: 0, low: 0 };
@@ -88,7 +90,7 @@ fn tlb(body: &[u8]) -> [Row; 16]
 }
 
 fn cpu(body: &[u8]) -> Cpu
-    requires { ⌜ length (now body) ≡ 496 ⌝ }
+    requires { ⌜ length (now body) ≡ 504 ⌝ }
     ensures { λ r. ⌜ r ≡ cpuAt (bodyWord (now (body .entry))) ⌝ }
 {
     let regs = registers(body);
@@ -98,7 +100,7 @@ fn cpu(body: &[u8]) -> Cpu
 }
 
 fn clock(body: &[u8]) -> Clock
-    requires { ⌜ length (now body) ≡ 496 ⌝ }
+    requires { ⌜ length (now body) ≡ 504 ⌝ }
     ensures { λ r. ⌜ r ≡ clockFrom clockBase (bodyWord (now (body .entry))) ⌝ }
 {
     Clock {
@@ -109,7 +111,7 @@ fn clock(body: &[u8]) -> Clock
 }
 
 fn settings(body: &[u8]) -> Settings
-    requires { ⌜ length (now body) ≡ 496 ⌝ }
+    requires { ⌜ length (now body) ≡ 504 ⌝ }
     ensures { λ r. ⌜ r ≡ settingsFrom settingsBase (bodyWord (now (body .entry))) ⌝ }
 {
     Settings {
@@ -120,7 +122,7 @@ fn settings(body: &[u8]) -> Settings
 }
 
 fn printer(body: &[u8], i: usize) -> Printer
-    requires { ⌜ length (now body) ≡ 496 ⌝ }
+    requires { ⌜ length (now body) ≡ 504 ⌝ }
     requires { ⌜ i < 8 ⌝ }
     ensures { λ r. ⌜ r ≡ printerAt (bodyWord (now (body .entry))) i ⌝ }
 {
@@ -135,7 +137,7 @@ fn printer(body: &[u8], i: usize) -> Printer
 }
 
 fn printers(body: &[u8]) -> [Printer; 8]
-    requires { ⌜ length (now body) ≡ 496 ⌝ }
+    requires { ⌜ length (now body) ≡ 504 ⌝ }
     ensures { λ r. ⌜ r ≡ tabulate 8 (printerAt (bodyWord (now (body .entry)))) ⌝ }
 {
     let absent = Printer {
@@ -153,7 +155,7 @@ fn printers(body: &[u8]) -> [Printer; 8]
 }
 
 fn line(body: &[u8]) -> Line
-    requires { ⌜ length (now body) ≡ 496 ⌝ }
+    requires { ⌜ length (now body) ≡ 504 ⌝ }
     ensures { λ r. ⌜ r ≡ lineAt (bodyWord (now (body .entry))) ⌝ }
 {
     let printers = printers(body);
@@ -162,7 +164,7 @@ fn line(body: &[u8]) -> Line
 }
 
 fn board(body: &[u8]) -> Board
-    requires { ⌜ length (now body) ≡ 496 ⌝ }
+    requires { ⌜ length (now body) ≡ 504 ⌝ }
     ensures { λ r. ⌜ r ≡ boardAt (bodyWord (now (body .entry))) ⌝ }
 {
     let clock = clock(body);
@@ -176,7 +178,7 @@ fn board(body: &[u8]) -> Board
 }
 
 fn journal(body: &[u8]) -> Journal
-    requires { ⌜ length (now body) ≡ 496 ⌝ }
+    requires { ⌜ length (now body) ≡ 504 ⌝ }
     ensures { λ r. ⌜ r ≡ journalFrom journalBase (bodyWord (now (body .entry))) ⌝ }
 {
     Journal {
@@ -186,7 +188,7 @@ fn journal(body: &[u8]) -> Journal
 }
 
 fn machine(body: &[u8]) -> Machine
-    requires { ⌜ length (now body) ≡ 496 ⌝ }
+    requires { ⌜ length (now body) ≡ 504 ⌝ }
     ensures { λ r. ⌜ r ≡ machineAt (bodyWord (now (body .entry))) ⌝ }
 {
     let cpu = cpu(body);
@@ -201,7 +203,7 @@ fn machine(body: &[u8]) -> Machine
 
 // The machine that an image of the right length holds.
 pub fn decode(image: &[u8]) -> Machine
-    requires { ⌜ length (now image) ≡ 501 ⌝ }
+    requires { ⌜ length (now image) ≡ 509 ⌝ }
     ensures { λ r. ⌜ r ≡ machineOf (now (image .entry)) ⌝ }
 {
     machine(&image[5..])

@@ -5,7 +5,7 @@ ghost use lib.ListN.{length, drop};
 ghost use lib.Seq.{sets};
 ghost use Rattle.word.specs.Lists.{flat};
 ghost use Rattle.word.specs.Big.{wordBytes};
-ghost use Rattle.state.specs.Layout.{header, coreWords, rowWords, clockWords, settingsWords, printerWords, journalWords, bytesOf};
+ghost use Rattle.state.specs.Layout.{header, coreWords, rowWords, clockWords, settingsWords, printerWords, journalWords, slotWords, bytesOf};
 use crate::machine::Core;
 use crate::machine::Journal;
 use crate::machine::Machine;
@@ -14,16 +14,16 @@ use clock::Clock;
 use printer::Printer;
 use tlb::Row;
 
-// The length word 497 and the version 1.
+// The length word and the version.
 fn put_header(image: &mut [u8])
-    requires { ⌜ length (now image) ≡ 501 ⌝ }
+    requires { ⌜ length (now image) ≡ 509 ⌝ }
     ensures { λ _. ⌜ now (image .exit) ≡ sets (now (image .entry)) 0 header ⌝ }
 {
-    word::big::put_word(image, 0, 497);
-    image[4] = 1;
+    word::big::put_word(image, 0, 505);
+    image[4] = 2;
 }
 
-pub fn core_words(c: Core) -> [u32; 12]
+fn core_words(c: Core) -> [u32; 12]
     ensures { λ r. ⌜ r ≡ coreWords c ⌝ }
 {
     let p = c.cp0;
@@ -49,10 +49,10 @@ fn clock_words(c: Clock, s: Settings) -> [u32; 6]
     [c.high, c.low, c.timer, s.scale, s.delay, s.installed]
 }
 
-fn last_words(pending: u32, j: Journal) -> [u32; 3]
-    ensures { λ r. ⌜ r ≡ pending ∷ journalWords j ⌝ }
+fn last_words(pending: u32, j: Journal, c: Core) -> [u32; 5]
+    ensures { λ r. ⌜ r ≡ pending ∷ (journalWords j ++ slotWords c) ⌝ }
 {
-    [pending, j.on_hand, j.next_slot]
+    [pending, j.on_hand, j.next_slot, c.slot, c.branch]
 }
 
 pub fn row_words(rows: [Row; 16]) -> [u32; 32]
@@ -84,7 +84,7 @@ pub fn printer_words(printers: [Printer; 8]) -> [u32; 40]
 
 // The header, and the words up to the translation table's.
 fn put_front(regs: [u32; 32], core: [u32; 12], rows: [u32; 32], image: &mut [u8])
-    requires { ⌜ length (now image) ≡ 501 ⌝ }
+    requires { ⌜ length (now image) ≡ 509 ⌝ }
     ensures { λ _. ⌜ now (image .exit) ≡ sets (now (image .entry)) 0 (header ++ flat wordBytes (drop 1 regs ++ (core ++ rows))) ⌝ }
 {
     put_header(image);
@@ -94,8 +94,8 @@ fn put_front(regs: [u32; 32], core: [u32; 12], rows: [u32; 32], image: &mut [u8]
 }
 
 // The words from the clock on.
-fn put_back(clock: [u32; 6], printers: [u32; 40], last: [u32; 3], image: &mut [u8])
-    requires { ⌜ length (now image) ≡ 501 ⌝ }
+fn put_back(clock: [u32; 6], printers: [u32; 40], last: [u32; 5], image: &mut [u8])
+    requires { ⌜ length (now image) ≡ 509 ⌝ }
     ensures { λ _. ⌜ now (image .exit) ≡ sets (now (image .entry)) 305 (flat wordBytes (clock ++ (printers ++ last))) ⌝ }
 {
     word::big::put_words(&clock, image, 305);
@@ -105,7 +105,7 @@ fn put_back(clock: [u32; 6], printers: [u32; 40], last: [u32; 3], image: &mut [u
 
 // Lays a machine down in an image of the right length.
 pub fn encode(m: Machine, image: &mut [u8])
-    requires { ⌜ length (now image) ≡ 501 ⌝ }
+    requires { ⌜ length (now image) ≡ 509 ⌝ }
     ensures { λ _. ⌜ now (image .exit) ≡ bytesOf m ⌝ }
 {
     let cpu = m.cpu;
@@ -119,6 +119,6 @@ pub fn encode(m: Machine, image: &mut [u8])
     let printers = line.printers;
     let clock = clock_words(board.clock, board.settings);
     let printers = printer_words(printers);
-    let last = last_words(line.pending, m.journal);
+    let last = last_words(line.pending, m.journal, cpu.core);
     put_back(clock, printers, last, image);
 }

@@ -23,6 +23,9 @@ pub struct Core {
     pub pc: u32,
     pub next_pc: u32,
     pub cp0: Cp0,
+    // Request L2: 1 where the next step is a slot, and then the address of its branch.
+    pub slot: u32,
+    pub branch: u32,
 }
 
 pub struct Board {

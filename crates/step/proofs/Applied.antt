@@ -1,9 +1,10 @@
--- The effect and the PC pair by parts: what the functions of apply.rt leave is the decision applied.
+-- The effect, the PC pair and the slot by parts: what the functions of apply.rt leave is the decision applied.
 use Prim.Native.Nat.{ℕ}
 use mathlib.Core.Path.{_≡_, refl, ap, _∙_}
 use mathlib.Core.List.{List, []}
 use Rattle.board.specs.declared.places.Sizes.{Sizes}
 use Rattle.tlb.specs.declared.Row.{Row}
+use Rattle.state.specs.Slot.{slotAfter}
 use Rattle.state.specs.declared.machine.Core.{Core}
 use Rattle.state.specs.declared.machine.Board.{Board}
 use Rattle.decide.specs.declared.effect.Decision.{Decision}
@@ -22,7 +23,7 @@ module _ (sizes : Sizes) (d : Decision) (core : Core) (board : Board) (regs : Li
       (regs′ ≡ regsAfter (busOf sizes board) (board .line .printers) (d .effect) regs) × (ram′ ≡ ramAfter (d .effect) ram) →
       next ≡ boardAfter (d .effect) board →
       moved ≡ coreAfter (next .line .pending) (d .effect) core →
-      last ≡ withPc (d .pc) (d .«next_pc») moved →
+      last ≡ withPc (d .pc) (d .«next_pc») (slotAfter (d .branched) moved) →
       worldOf last next regs′ (rowsAfter (d .effect) t) ram′ paper ≡ appliedOf sizes d from
   apply-is written boarded cored paced =
       rw (paced, cored, boarded, written .0, written .1) (ap (paired d) (back (by-parts sizes (d .effect) from)))

@@ -12,7 +12,8 @@ use Rattle.printer.proofs.Ticks.{idle-tick}
 use Rattle.bus.specs.declared.store.Store.{Store}
 use Rattle.bus.specs.declared.store.Store.the-variants.{Nothing, Timer, Command, Data}
 use Rattle.board.specs.declared.places.Sizes.{Sizes}
-use Rattle.state.specs.Layout.{coreWords}
+use Rattle.state.specs.Layout.{keptWords}
+use Rattle.state.specs.Slot.{slotAfter}
 use Rattle.state.specs.declared.machine.Core.{Core}
 use Rattle.state.specs.declared.machine.Board.{Board}
 use Rattle.state.specs.declared.machine.Settings.{Settings}
@@ -31,7 +32,7 @@ use Rattle.step.proofs.Ticks.{tick-is}
 use Rattle.step.proofs.Applied.{apply-is}
 
 -- a core that was put back is the core then
-pub put-back : {words : List ℕ} {c : Core} → words ≡ coreWords c → coreIn words ≡ c
+pub put-back : {words : List ℕ} {c : Core} → words ≡ keptWords c → coreIn words ≡ c
 put-back {c = c} put = ap coreIn put ∙ core-held c
 
 -- ---- the tick
@@ -51,7 +52,7 @@ pub ticks-held : (settings : Settings) (core : List ℕ) (h : Held) (words paper
     beat ≡ clock.tickedOf (h .clock) →
     was ≡ coreIn core →
     next ≡ coreTicked (beat .rang) (p .pending) was →
-    core′ ≡ coreWords next →
+    core′ ≡ keptWords next →
     TickIs settings core h words paper (record { clock = beat .clock; pending = p .pending; busy = p .busy }) core′ words′ paper′
 ticks-held settings core h words paper {p} {words′} {paper′} {beat = beat} printed beaten read moved put =
     record {
@@ -93,8 +94,8 @@ pub applies-held : (settings : Settings) (sizes : Sizes) (d : Decision) (core co
     HeldIs settings (d .effect) h words next words′ →
     coreIn core₁ ≡ coreAfter (next .pending) (d .effect) (coreIn core) →
     moved ≡ coreIn core₁ →
-    last ≡ withPc (d .pc) (d .«next_pc») moved →
-    core′ ≡ coreWords last →
+    last ≡ withPc (d .pc) (d .«next_pc») (slotAfter (d .branched) moved) →
+    core′ ≡ keptWords last →
     ApplyIs settings sizes d core h words regs ram next core′ words′ regs′ ram′
 applies-held settings sizes d core core₁ h words regs ram {words′ = words′} {next = next} written held′ cored read paced put =
     record {
@@ -102,5 +103,5 @@ applies-held settings sizes d core core₁ h words regs ram {words′ = words′
           apply-is sizes d (coreIn core) (boardOf h settings words) regs [] ram [] {next = boardOf next settings words′} written (held′ .board-is)
           (read ∙ cored) (put-back put ∙ paced);
       told = held′ .told;
-      twelve = ap (λ (l : List ℕ). length l) put;
+      fourteen = ap (λ (l : List ℕ). length l) put;
     }

@@ -1,4 +1,4 @@
--- What a decision leaves: its effect on the one kind of place that it names, and the PC pair. Nothing else changes.
+-- What a decision leaves: its effect on the one kind of place that it names, the PC pair, and whether the next step is a slot. Nothing else changes.
 use Prim.Native.Nat.{ℕ}
 use mathlib.Core.List.{List}
 use lib.ListN.{set}
@@ -14,6 +14,7 @@ use Rattle.cp0.specs.declared.registers.Cp0.{Cp0}
 use Rattle.isa.specs.declared.instr.ControlRegister.the-variants.{Cause}
 use Rattle.memory.specs.Memory.{storedAt}
 use Rattle.tlb.specs.declared.Row.{Row}
+use Rattle.state.specs.Slot.{inSlot, returnOf, slotAfter}
 use Rattle.state.specs.declared.machine.Core.{Core}
 use Rattle.state.specs.declared.machine.Cpu.{Cpu}
 use Rattle.state.specs.declared.machine.Board.{Board}
@@ -40,17 +41,17 @@ abbrev pub withRam : List ℕ → World → World
 withRam ram w = record { cpu = w .cpu; board = w .board; ram = ram; paper = w .paper }
 
 abbrev pub withHiLo : ℕ → ℕ → Core → Core
-withHiLo hi lo c = record { hi = hi; lo = lo; pc = c .pc; «next_pc» = c .«next_pc»; cp0 = c .cp0 }
+withHiLo hi lo c = record { hi = hi; lo = lo; pc = c .pc; «next_pc» = c .«next_pc»; cp0 = c .cp0; slot = c .slot; branch = c .branch }
 
 abbrev pub withCp0 : Cp0 → Core → Core
-withCp0 cp0 c = record { hi = c .hi; lo = c .lo; pc = c .pc; «next_pc» = c .«next_pc»; cp0 = cp0 }
+withCp0 cp0 c = record { hi = c .hi; lo = c .lo; pc = c .pc; «next_pc» = c .«next_pc»; cp0 = cp0; slot = c .slot; branch = c .branch }
 
 -- a processor with its CP0 changed so
 abbrev pub inCp0 : (Cp0 → Cp0) → Cpu → Cpu
 inCp0 f p = record { regs = p .regs; core = withCp0 (f (p .core .cp0)) (p .core); tlb = p .tlb }
 
 abbrev pub withPc : ℕ → ℕ → Core → Core
-withPc pc next c = record { hi = c .hi; lo = c .lo; pc = pc; «next_pc» = next; cp0 = c .cp0 }
+withPc pc next c = record { hi = c .hi; lo = c .lo; pc = pc; «next_pc» = next; cp0 = c .cp0; slot = c .slot; branch = c .branch }
 
 -- ---- the device area
 
@@ -86,7 +87,7 @@ deviceStored s w =
     let b = boardStored s (w .board) in
     record { cpu = inCp0 (linesStored s (b .line .pending)) (w .cpu); board = b; ram = w .ram; paper = w .paper }
 
--- ---- the effect, and the PC pair
+-- ---- the effect, then the PC pair and the slot
 
 -- `sizes` are those of the lent buffers
 unfoldable pub effectOf : Sizes → Effect → World → World
@@ -99,10 +100,11 @@ effectOf sizes (TlbRow i row) w = withTlb (set (w .cpu .tlb) i row) w
 effectOf sizes (Ram at word) w = withRam (storedAt 4 (w .ram) at word) w
 effectOf sizes (DeviceLoad d offset) w = withRegs (set (w .cpu .regs) d (deviceWord sizes (w .board) offset)) w
 effectOf sizes (DeviceStore offset word) w = deviceStored (busWriteOf offset word) w
-effectOf sizes (Raise e) w = withCore (withCp0 (enteredOf e (w .cpu .core .pc) (w .cpu .core .cp0)) (w .cpu .core)) w
+effectOf sizes (Raise e) w = withCore (withCp0 (enteredOf e (inSlot (w .cpu .core)) (returnOf (w .cpu .core)) (w .cpu .core .cp0)) (w .cpu .core)) w
 
+-- the branch's address is the PC of the step that executed it
 abbrev pub paired : Decision → World → World
-paired d w = withCore (withPc (d .pc) (d .«next_pc») (w .cpu .core)) w
+paired d w = withCore (withPc (d .pc) (d .«next_pc») (slotAfter (d .branched) (w .cpu .core))) w
 
 abbrev pub appliedOf : Sizes → Decision → World → World
 appliedOf sizes d w = paired d (effectOf sizes (d .effect) w)

@@ -46,4 +46,4 @@ pub record ApplyIs (settings : Settings) (sizes : Sizes) (d : Decision) (core : 
       worldOf (coreIn core′) (boardOf r settings words′) regs′ (rowsAfter (d .effect) []) ram′ []
       ≡ appliedOf sizes d (worldOf (coreIn core) (boardOf held settings words) regs [] ram [])
   pub told : Told r words′
-  pub twelve : length core′ ≡ 12
+  pub fourteen : length core′ ≡ 14

@@ -18,6 +18,7 @@ use Rattle.tlb.specs.Entry.{noRow, readAt}
 use Rattle.tlb.specs.declared.Row.{Row}
 use Rattle.record.specs.declared.Saved.{Saved}
 use Rattle.record.specs.declared.Saved.the-variants as saved
+use Rattle.state.specs.Slot.{inSlot, returnOf}
 use Rattle.state.specs.declared.machine.Core.{Core}
 use Rattle.state.specs.declared.machine.Board.{Board}
 use Rattle.decide.specs.declared.effect.Effect.{Effect}
@@ -65,7 +66,7 @@ ramAfter (DeviceLoad d offset) ram = ram
 ramAfter (DeviceStore offset word) ram = ram
 ramAfter (Raise e) ram = ram
 
--- the core but for its PC pair; `pending` is the map after the effect
+-- the core but for its PC pair and the slot; `pending` is the map after the effect
 abbrev pub coreAfter : ℕ → Effect → Core → Core
 coreAfter pending Nothing c = c
 coreAfter pending (Register d word) c = c
@@ -76,7 +77,7 @@ coreAfter pending (TlbRow i row) c = c
 coreAfter pending (Ram at word) c = c
 coreAfter pending (DeviceLoad d offset) c = c
 coreAfter pending (DeviceStore offset word) c = withCp0 (linesStored (busWriteOf offset word) pending (c .cp0)) c
-coreAfter pending (Raise e) c = withCp0 (enteredOf e (c .pc) (c .cp0)) c
+coreAfter pending (Raise e) c = withCp0 (enteredOf e (inSlot c) (returnOf c) (c .cp0)) c
 
 abbrev pub rowsAfter : Effect → List Row → List Row
 rowsAfter Nothing t = t

@@ -5,7 +5,9 @@ ghost use Prim.Native.Nat.{_+_, _<_, _≤_};
 ghost use lib.ListN.{length};
 ghost use Rattle.bus.specs.Stored.{InLine};
 ghost use Rattle.bus.specs.Words.{busWordOf};
+ghost use Rattle.cp0.specs.Entry.{enteredOf};
 ghost use Rattle.cp0.specs.Registers.{withRegister};
+ghost use Rattle.state.specs.Slot.{inSlot, returnOf, slotAfter};
 ghost use Rattle.isa.specs.declared.instr.ControlRegister.the-variants.{Cause};
 ghost use Rattle.held.specs.Board.{printersIn, Told};
 ghost use Rattle.held.specs.Core.{coreIn};
@@ -19,6 +21,7 @@ use bus::store::Store;
 use bus::store::cause_stored;
 use bus::store::write;
 use clock::Clock;
+use cp0::entry::Exception;
 use cp0::entry::entered;
 use cp0::registers::Cp0;
 use cp0::registers::with_entry;
@@ -35,6 +38,8 @@ use held::printer_in;
 use isa::instr::ControlRegister;
 use state::machine::Core;
 use state::machine::Settings;
+use state::slot::in_slot;
+use state::slot::return_of;
 
 // What LW reads. Of the printers only the one that the offset names is looked at, and where it stands: code that took them all would keep all forty words apart,
 // and move each of them at every step.
@@ -82,6 +87,8 @@ fn with_cp0(c: Core, cp0: Cp0) -> Core
         pc: c.pc,
         next_pc: c.next_pc,
         cp0,
+        slot: c.slot,
+        branch: c.branch,
     }
 }
 
@@ -95,11 +102,13 @@ fn with_hi_lo(c: Core, hi: u32, lo: u32) -> Core
         pc: c.pc,
         next_pc: c.next_pc,
         cp0,
+        slot: c.slot,
+        branch: c.branch,
     }
 }
 
 // `pending` is the printers' map after the effect. Only what an arm changes is written.
-pub fn move_core(core: &mut [u32; 12], effect: Effect, pending: u32)
+pub fn move_core(core: &mut [u32; 14], effect: Effect, pending: u32)
     ensures { λ _. ⌜ coreIn (now (core .exit)) ≡ coreAfter pending effect (coreIn (now (core .entry))) ⌝ }
 {
     let c = core_in(core);
@@ -115,8 +124,14 @@ pub fn move_core(core: &mut [u32; 12], effect: Effect, pending: u32)
         Effect::Ram(_, _) => {}
         Effect::DeviceLoad(_, _) => {}
         Effect::DeviceStore(offset, word) => put_core(stored_lines(c, offset, word, pending), core),
-        Effect::Raise(e) => put_core(with_cp0(c, entered(c.cp0, e, c.pc)), core),
+        Effect::Raise(e) => put_core(raised(c, e), core),
     }
+}
+
+fn raised(c: Core, e: Exception) -> Core
+    ensures { λ r. ⌜ r ≡ withCp0 (enteredOf e (inSlot c) (returnOf c) (c .cp0)) c ⌝ }
+{
+    with_cp0(c, entered(c.cp0, e, in_slot(c), return_of(c)))
 }
 
 fn stored_lines(c: Core, offset: u32, word: u32, pending: u32) -> Core
@@ -127,16 +142,29 @@ fn stored_lines(c: Core, offset: u32, word: u32, pending: u32) -> Core
     with_cp0(c, with_register(cp0, ControlRegister::Cause, cause))
 }
 
-pub fn with_pc(c: Core, pc: u32, next_pc: u32) -> Core
-    ensures { λ r. ⌜ r ≡ withPc pc «next_pc» c ⌝ }
+pub fn with_pc(c: Core, pc: u32, next_pc: u32, branched: bool) -> Core
+    ensures { λ r. ⌜ r ≡ withPc pc «next_pc» (slotAfter branched c) ⌝ }
 {
     let cp0 = c.cp0;
+    if branched {
+        return Core {
+            hi: c.hi,
+            lo: c.lo,
+            pc,
+            next_pc,
+            cp0,
+            slot: 1,
+            branch: c.pc,
+        };
+    }
     Core {
         hi: c.hi,
         lo: c.lo,
         pc,
         next_pc,
         cp0,
+        slot: 0,
+        branch: 0,
     }
 }
 
@@ -237,7 +265,7 @@ fn held_after(effect: Effect, held: Held, settings: Settings, words: &mut [u32; 
 
 // A row of the table is the caller's to set, where the effect says so.
 pub fn applied(
-    core: &mut [u32; 12],
+    core: &mut [u32; 14],
     held: Held,
     settings: Settings,
     words: &mut [u32; 40],
@@ -266,6 +294,6 @@ pub fn applied(
     let next = held_after(effect, held, settings, words);
     move_core(core, effect, next.pending);
     let moved = core_in(core);
-    put_core(with_pc(moved, d.pc, d.next_pc), core);
+    put_core(with_pc(moved, d.pc, d.next_pc, d.branched), core);
     next
 }

@@ -55,6 +55,8 @@ pub fn core_ticked(rang: bool, pending: u32, c: Core) -> Core
         pc: c.pc,
         next_pc: c.next_pc,
         cp0,
+        slot: c.slot,
+        branch: c.branch,
     }
 }
 
@@ -83,7 +85,7 @@ fn printed(words: &mut [u32; 40], pending: u32, busy: bool, paper: &mut [u8]) ->
 
 // Neither registers, nor table, nor RAM have a part in it.
 pub fn ticked(
-    core: &mut [u32; 12],
+    core: &mut [u32; 14],
     held: Held,
     settings: Settings,
     words: &mut [u32; 40],

@@ -49,7 +49,7 @@ saved-small kind which first second small = go (eqb kind 1) (eqb kind 2) (eqb ki
 slot-small : (bytes : List ℕ) → length bytes ≡ 256 → Below 256 bytes → Small (recordOf bytes .saved)
 unfolding recordOf recordAt
 slot-small bytes long below =
-    saved-small (slotWord bytes 17) (slotWord bytes 18) (slotWord bytes 19) (slotWord bytes 20) (load-small 4 bytes 76 (omega arith) below)
+    saved-small (slotWord bytes 19) (slotWord bytes 20) (slotWord bytes 21) (slotWord bytes 22) (load-small 4 bytes 84 (omega arith) below)
 
 -- where the h newest are well formed, fewer are too
 fewer : (journal : List ℕ) (next : ℕ) (w : World) (h k : ℕ) → k ≤ h → allFit (back.both noRoms) (slotsOf journal) journal next h w ≡ true →

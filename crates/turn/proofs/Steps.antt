@@ -148,7 +148,7 @@ turned-is settings p b whole ready sixteen {core₁ = core₁} ticked begun {cor
           ring-is (p .mark) (b .journal) ready (begunRecord p b) _ (length-printers (p .words)) begun ended
           (note-is x y from board t (p .regs) (b .ram) (b .paper) (ticked .world-is) chosen refl kept refl);
       told = applied .told;
-      twelve = applied .twelve;
+      fourteen = applied .fourteen;
     }
 
 -- ---- with no slots

@@ -1,4 +1,4 @@
--- What the host lends, in one record: "The host lends: state image (501 bytes), execution ROM, bootstrap ROM, RAM, paper, journal." One buffer more is one more field
+-- What the host lends, in one record: "The host lends: state image .., execution ROM, bootstrap ROM, RAM, paper, journal." One buffer more is one more field
 -- here, and a parameter of the functions of this file: all else names the buffers that it speaks of.
 use Prim.Native.Nat.{ℕ}
 use mathlib.Core.List.{List, []}

@@ -27,7 +27,7 @@ lentFrom b = lentOf (b .execution) (b .bootstrap) (b .ram)
 
 -- what the record and the tick ask
 pub record Fit (core : List ℕ) (held : Held) (words paper journal : List ℕ) (mark : Journal) : Type 0 where
-  pub twelve : length core ≡ 12
+  pub fourteen : length core ≡ 14
   pub told : Told held words
   pub short : length paper ≤ 65536
   pub ready : Ready journal mark
@@ -44,4 +44,4 @@ pub record TurnIs (settings : Settings) (p : Parts) (b : Beside) (e : Effect) (p
       ringOf (p′ .mark) (b′ .journal)
       ≡ written recordSize (slotsOf (b .journal)) (recordBytes (noteOf (romsIn b) (worldHeld p settings b))) (ringOf (p .mark) (b .journal))
   pub told : Told (p′ .held) (p′ .words)
-  pub twelve : length (p′ .core) ≡ 12
+  pub fourteen : length (p′ .core) ≡ 14

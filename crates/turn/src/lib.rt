@@ -29,7 +29,7 @@ use tlb::Row;
 
 // The parts that a run holds.
 pub struct Parts {
-    pub core: [u32; 12],
+    pub core: [u32; 14],
     pub held: Held,
     pub regs: [u32; 32],
     pub rows: [Row; 16],
@@ -58,13 +58,13 @@ fn kept_paper(held: Held, words: &[u32; 40], paper: &[u8]) -> SavedPaper
 fn begin(
     journal: &mut [u8],
     mark: Journal,
-    core: &[u32; 12],
+    core: &[u32; 14],
     held: Held,
     words: &[u32; 40],
     paper: &[u8],
 )
     requires { ⌜ Ready (now journal) mark ⌝ }
-    requires { ⌜ length (now core) ≡ 12 ⌝ }
+    requires { ⌜ length (now core) ≡ 14 ⌝ }
     requires { ⌜ Told held (now words) ⌝ }
     ensures { λ _. ⌜
         now (journal .exit)
@@ -104,7 +104,7 @@ fn end(
 
 // Before the decision: the record begun, and the tick.
 pub fn start(
-    core: &mut [u32; 12],
+    core: &mut [u32; 14],
     held: Held,
     settings: Settings,
     words: &mut [u32; 40],
@@ -130,7 +130,7 @@ pub fn start(
 
 // After the decision: the record ended, and the effect. `old` is the row that the effect overwrites; the table itself is the caller's to set.
 pub fn finish(
-    core: &mut [u32; 12],
+    core: &mut [u32; 14],
     after: Held,
     settings: Settings,
     words: &mut [u32; 40],

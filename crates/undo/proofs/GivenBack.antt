@@ -14,7 +14,7 @@ use Rattle.word.proofs.Cond.{both}
 use Rattle.word.proofs.Lists.{below-append}
 use Rattle.clock.specs.Tick.{timeOf, clockAt, down}
 use Rattle.clock.specs.declared.Clock.{Clock}
-use Rattle.state.specs.Layout.{coreWords, rowWords, clockWords, printerWords}
+use Rattle.state.specs.Layout.{keptWords, rowWords, clockWords, printerWords}
 use Rattle.tlb.specs.declared.Row.{Row}
 use Rattle.record.specs.declared.Record.{Record}
 use Rattle.record.specs.declared.Saved.{Saved}
@@ -27,7 +27,7 @@ use Rattle.undo.specs.Undo.{regsBack, rowsBack, clockBack}
 -- ---- the parts of a record's words
 
 pub record Parts (r : Record) : Type 0 where
-  pub core : Below (2 ^ 32) (coreWords (r .core))
+  pub core : Below (2 ^ 32) (keptWords (r .core))
   pub timer : r .timer < 2 ^ 32
   pub pending : r .pending < 2 ^ 32
   pub saved : Below (2 ^ 32) (savedWords (r .saved))
@@ -36,7 +36,7 @@ pub record Parts (r : Record) : Type 0 where
 pub parts : (r : Record) → Below (2 ^ 32) (layoutOf r) → Parts r
 unfolding layoutOf
 parts r s =
-    let a = coreWords (r .core) in
+    let a = keptWords (r .core) in
     let b = smallWords (r .timer) (r .pending) (r .paper .mask) (r .paper .bytes) in
     let c = savedWords (r .saved) in
     let d = flat printerWords (r .printers) in

@@ -5,7 +5,7 @@ use session::work::Worked;
 
 // What reset says of the three parameters.
 fn ranges(scale: u64, delay: u64, installed: u64) -> u64 {
-    let mut scratch = [0u8; 501];
+    let mut scratch = [0u8; 509];
     refused(reset::reset(&mut scratch, scale, delay, installed))
 }
 

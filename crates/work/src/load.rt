@@ -33,7 +33,7 @@ fn laid(file: &[u8], image: &mut [u8], ram: &mut [u8], address: u64) -> Worked {
 }
 
 pub fn load(file: &[u8], image: &mut [u8], ram: &mut [u8], address: u64) -> Worked {
-    if image.len() != 501 {
+    if image.len() != 509 {
         return Worked::Refused(5);
     }
     if !fits(address, file.len(), ram.len()) {

@@ -181,6 +181,11 @@ pub fn random_bench(dice: &mut Dice) -> Bench {
         apart(machine);
     }
     machine.next_pc = if dice.chance(8) { value(dice) } else { machine.pc.wrapping_add(4) };
+    if dice.chance(4) {
+        machine.slot_flag = 1;
+        machine.branch_address =
+            if dice.chance(2) { machine.pc.wrapping_sub(4) } else { value(dice) };
+    }
     machine.clock = dice.long();
     machine.timer = if dice.chance(3) { dice.below(20) } else { dice.word() };
     machine.next_slot = if slots == 0 { 0 } else { dice.below(slots) };

@@ -6,7 +6,7 @@ use crate::dice::Dice;
 use crate::fields::{NEXT_SLOT, ON_HAND};
 use crate::lengths::Lengths;
 use crate::pool::Pool;
-use crate::record::{newest, plain, set, KIND, UNUSED};
+use crate::record::{newest, plain, set, KIND, SLOT_FLAG, UNUSED};
 use crate::valid::Case;
 use crate::wild::fitted;
 use crate::wrong::{Choices, CHOICES, IMAGE, JOURNAL, PAPER, RAM};
@@ -87,7 +87,7 @@ pub fn lent(dice: &mut Dice, pool: &Pool, asked: &Asked) -> Call {
         slot.copy_from_slice(&record);
     }
     for slot in &asked.records {
-        let place = dice.pick(&[KIND, UNUSED, UNUSED + 2]);
+        let place = dice.pick(&[KIND, SLOT_FLAG, UNUSED]);
         set(&mut journal[256 * slot..][..256], place, 1 << dice.between(2, 31));
     }
     image_bytes.resize(image, 0);

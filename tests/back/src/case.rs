@@ -85,7 +85,7 @@ impl Case<'_> {
             }
         }
         let asked: Vec<&(u32, Vec<u8>)> = damaged.iter().filter(|(age, _)| *age < steps).collect();
-        let wrongs: Vec<u32> = asked.iter().map(|(_, record)| self.judge.wrongs(record)).collect();
+        let wrongs: Vec<u64> = asked.iter().map(|(_, record)| self.judge.wrongs(record)).collect();
         let expected = if wrongs.iter().any(|wrong| *wrong != 0) { 8 } else { 0 };
         let name = DAMAGES[which].0;
         let what = format!("{name}, record {age} of {steps} asked for, {on_hand} on hand");
@@ -116,7 +116,7 @@ impl Case<'_> {
         &mut self,
         which: usize,
         number: u8,
-        wrongs: &[u32],
+        wrongs: &[u64],
         damaged: &[(u32, Vec<u8>)],
         steps: u32,
     ) {
@@ -147,7 +147,7 @@ impl Case<'_> {
             let pair = |k: &usize| {
                 wrote(record, *k + 1)
                     && place(*k) == place(*k + 1)
-                    && record[60 + *k] != record[61 + *k]
+                    && record[PAPER_BYTES + *k] != record[PAPER_BYTES + *k + 1]
             };
             met.one_place += u64::from(places.iter().filter(|k| **k < 7).any(pair));
         }

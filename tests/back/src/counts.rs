@@ -102,6 +102,8 @@ fn stepped(least: &mut Least, met: &Stepped, enough: &Enough) {
     least.met("records checked", met.records, enough.records);
     least.each(&KINDS, "given back:", &met.by_kind, &enough.kinds);
     least.each(&CODES, "exceptions with code", &met.by_code, &enough.codes);
+    least.met("steps in slots", met.slots, enough.slots);
+    least.met("exceptions in slots", met.entered_in_slots, enough.slots / 50);
     least.met("timer passages", met.passages, enough.passages);
     least.met("take-backs over a carry of the clock", met.carries, enough.carries);
     least.met("take-backs over the clock's round", met.clock_rounds, enough.carries / 4);
@@ -123,6 +125,7 @@ struct Enough {
     records: u64,
     kinds: [u64; 4],
     codes: [u64; 13],
+    slots: u64,
     passages: u64,
     carries: u64,
     finished: u64,
@@ -134,6 +137,7 @@ const SEQUENCE: Enough = Enough {
     records: 1_000_000,
     kinds: [100_000, 100_000, 5_000, 2_500],
     codes: [10_000, 100, 10_000, 400, 10_000, 1_500, 3_000, 1_000, 100, 100, 500, 500, 80],
+    slots: 50_000,
     passages: 2_000,
     carries: 500,
     finished: 5_000,
@@ -147,6 +151,7 @@ const SOAK: Enough = Enough {
     records: 2_000_000,
     kinds: [500_000, 500_000, 5_000, 50_000],
     codes: [2_000, 50_000, 5_000, 20, 800, 800, 0, 800, 1_500, 800, 800, 1_500, 800],
+    slots: 50_000,
     passages: 2_000,
     carries: 0,
     finished: 3_000,

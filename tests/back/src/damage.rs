@@ -15,7 +15,7 @@ pub struct Spot<'a> {
 
 pub type Damage = (&'static str, fn(&mut Spot, &mut Dice));
 
-pub const DAMAGES: [Damage; 39] = [
+pub const DAMAGES: [Damage; 41] = [
     ("one bit", |spot, dice| bits(spot, dice, 1)),
     ("two bits", |spot, dice| bits(spot, dice, 2)),
     ("three bits", |spot, dice| bits(spot, dice, 3)),
@@ -35,8 +35,14 @@ pub const DAMAGES: [Damage; 39] = [
     ("shifted by a word", |spot, _| spot.record.rotate_left(4)),
     ("a random word", |spot, dice| spot.set(dice.below(WORDS as u32) as usize, dice.word())),
     ("a word that no rule looks at", |spot, dice| spot.set(dice.pick(&FREE), dice.word())),
-    ("one of the last three words", |spot, dice| {
-        spot.set(UNUSED + dice.below(3) as usize, 1 << dice.below(32));
+    ("the last word", |spot, dice| spot.set(UNUSED, 1 << dice.below(32))),
+    ("a slot flag alone", |spot, dice| {
+        spot.set(SLOT_FLAG, dice.pick(&[0, 1, 2, 3, 0x100, 0x101, 1 << 31, u32::MAX]));
+    }),
+    ("a slot flag and a branch address", |spot, dice| {
+        spot.set(SLOT_FLAG, dice.pick(&[0, 0, 1, 1, 1, 2]));
+        let any = dice.word();
+        spot.set(BRANCH_ADDRESS, dice.pick(&[0, 1, 4, 1 << 31, u32::MAX, any]));
     }),
     ("a kind alone", |spot, dice| {
         spot.set(KIND, dice.pick(&[0, 1, 2, 3, 4, 5, 0x100, 0x103, 1 << 31, u32::MAX]));

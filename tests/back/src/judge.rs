@@ -18,8 +18,8 @@ pub struct Judge {
 pub type Wrong = (&'static str, u64, fn(&Judge, &[u8]) -> bool);
 
 #[rustfmt::skip]
-pub const WRONGS: [Wrong; 31] = [
-    ("the last three words are not 0", 800, |_, r| (UNUSED..WORDS).any(|place| word(r, place) != 0)),
+pub const WRONGS: [Wrong; 33] = [
+    ("the last word is not 0", 800, |_, r| word(r, UNUSED) != 0),
     ("a kind over 3", 500, |_, r| word(r, KIND) > 3),
     ("words beside kind 0", 800, |_, r| kind(r, NOTHING) && [WHICH, OLD, OLD_LOW].iter().any(|place| word(r, *place) != 0)),
     ("a register's number", 600, |_, r| kind(r, REGISTER) && !(1..=31).contains(&word(r, WHICH))),
@@ -31,6 +31,8 @@ pub const WRONGS: [Wrong; 31] = [
     ("a byte of a printer that did not write", 700, |_, r| (0..8).any(|k| !wrote(r, k) && r[PAPER_BYTES + k] != 0)),
     ("a RAM place outside RAM", 400, |judge, r| kind(r, RAM_WORD) && word(r, WHICH) / 4 >= judge.ram / 4),
     ("a paper place outside the paper", 250, |judge, r| (0..8).any(|k| wrote(r, k) && judge.outside_paper(r, k))),
+    ("a slot flag over 1", 300, |_, r| word(r, SLOT_FLAG) > 1),
+    ("a branch address without the flag", 300, |_, r| word(r, SLOT_FLAG) == 0 && word(r, BRANCH_ADDRESS) != 0),
     ("Status outside its mask", 300, |_, r| word(r, STATUS) & !0x1740_FF3F != 0),
     ("Cause outside its mask", 100, |_, r| word(r, CAUSE) & !0xB000_FF7C != 0),
     ("an ExcCode over 12", 150, |_, r| word(r, CAUSE) >> 2 & 31 > 12),
@@ -96,7 +98,7 @@ impl Judge {
     }
 
     /// Bit n is on where the n-th of WRONGS holds; 0 for a well-formed record.
-    pub fn wrongs(&self, record: &[u8]) -> u32 {
+    pub fn wrongs(&self, record: &[u8]) -> u64 {
         let found = WRONGS.iter().enumerate().filter(|(_, (_, _, wrong))| wrong(self, record));
         found.map(|(number, _)| 1 << number).sum()
     }

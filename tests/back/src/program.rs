@@ -2,8 +2,8 @@
 //! end. It stores, misses in the table, raises exceptions on purpose, is
 //! interrupted by the timer, and keeps eight printers at work.
 //!
-//! An exception between a branch and its slot loses the branch (document 01
-//! keeps no BD), so that no branch here matters: what follows is as good.
+//! A handler that goes on behind an exception in a branch's slot loses the branch,
+//! so that no branch here matters: what follows is as good.
 
 use crate::asm::*;
 

@@ -15,17 +15,19 @@ pub const ENTRY_LO: usize = 7;
 pub const STATUS: usize = 9;
 pub const CAUSE: usize = 10;
 pub const EPC: usize = 11;
-pub const TIMER: usize = 12;
-pub const PENDING: usize = 13;
-pub const PRINTED: usize = 14;
-pub const KIND: usize = 17;
-pub const WHICH: usize = 18;
-pub const OLD: usize = 19;
-pub const OLD_LOW: usize = 20;
-pub const UNUSED: usize = 61;
+pub const SLOT_FLAG: usize = 12;
+pub const BRANCH_ADDRESS: usize = 13;
+pub const TIMER: usize = 14;
+pub const PENDING: usize = 15;
+pub const PRINTED: usize = 16;
+pub const KIND: usize = 19;
+pub const WHICH: usize = 20;
+pub const OLD: usize = 21;
+pub const OLD_LOW: usize = 22;
+pub const UNUSED: usize = 63;
 
 /// The byte at which the eight old bytes of paper start.
-pub const PAPER_BYTES: usize = 60;
+pub const PAPER_BYTES: usize = 68;
 
 pub const NOTHING: u32 = 0;
 pub const REGISTER: u32 = 1;
@@ -43,7 +45,7 @@ pub const COUNT: usize = 4;
 
 /// The place of one of a printer's five words.
 pub const fn printer(number: usize, field: usize) -> usize {
-    21 + 5 * number + field
+    23 + 5 * number + field
 }
 
 pub fn word(record: &[u8], place: usize) -> u32 {
@@ -72,6 +74,8 @@ pub fn plain(machine: &Machine) -> [u8; RECORD_BYTES] {
         machine.status.0,
         machine.cause,
         machine.epc,
+        machine.slot_flag,
+        machine.branch_address,
         machine.timer,
         machine.pending,
     ];

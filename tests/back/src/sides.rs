@@ -2,16 +2,13 @@
 //! the reference's. Every call is made on both, and every byte compared.
 
 use crate::call::Call;
-use crate::fields::byte_name;
+use crate::fields::{byte_name, clear_journal_place, same_but_journal_place};
 use crate::guarded::Guarded;
 use crate::lending;
 use crate::lent::Lent;
 use crate::names::{journal_byte, paper_byte, ram_byte};
 use crate::report::unpacked;
-use reference::{decode, Answer, Machine, IMAGE_BYTES};
-
-/// On hand and next slot are the image's last two words.
-pub const JOURNAL_WORDS: usize = IMAGE_BYTES - 8;
+use reference::{decode, Answer, Machine};
 
 /// What a call may write.
 #[derive(Clone, PartialEq, Eq)]
@@ -79,7 +76,7 @@ impl Sides {
     pub fn beginning(&self) -> Buffers {
         let Buffers { image, ram, paper, .. } = &self.theirs;
         let (mut image, ram, paper) = (image.clone(), ram.clone(), paper.clone());
-        image[JOURNAL_WORDS..].fill(0);
+        clear_journal_place(&mut image);
         Buffers { image, ram, paper, journal: Vec::new() }
     }
 
@@ -98,7 +95,7 @@ impl Sides {
             }
             left -= budget;
         }
-        image[..JOURNAL_WORDS] == self.theirs.image[..JOURNAL_WORDS]
+        same_but_journal_place(&image, &self.theirs.image)
             && ram == self.theirs.ram
             && paper == self.theirs.paper
     }

@@ -9,6 +9,9 @@ pub struct Stepped {
     pub records: u64,
     pub by_kind: [u64; 4],
     pub by_code: [u64; 13],
+    /// Steps in slots, and those that entered an exception.
+    pub slots: u64,
+    pub entered_in_slots: u64,
     /// The clock's low word went to 0, and the whole clock did.
     pub carries: u64,
     pub clock_rounds: u64,
@@ -29,7 +32,8 @@ const VECTORS: [u32; 4] = [0, 0x80, 0x1FC0_0100, 0x1FC0_0180];
 fn entered(before: &[u8], after: &[u8]) -> Option<usize> {
     let status = word(before, STATUS);
     let pushed = status & !0x0700_003F | status << 2 & 0x3F | status << 1 & 0x0700_0000;
-    let entered = word(after, EPC) == word(before, PC)
+    let back = if word(before, SLOT_FLAG) == 1 { BRANCH_ADDRESS } else { PC };
+    let entered = word(after, EPC) == word(before, back)
         && word(after, STATUS) == pushed
         && VECTORS.contains(&word(after, PC))
         && word(after, NEXT_PC) == word(after, PC) + 4
@@ -70,6 +74,9 @@ impl Stepped {
         if let Some(code) = code {
             self.by_code[code] += 1;
         }
+        let in_slot = word(before, SLOT_FLAG) == 1;
+        self.slots += u64::from(in_slot);
+        self.entered_in_slots += u64::from(in_slot && code.is_some());
         let mut finished = 0;
         for number in 0..8 {
             let last_tick = word(before, printer(number, TICKS)) == 1;

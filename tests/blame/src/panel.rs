@@ -2,8 +2,8 @@
 
 use crate::guarded::Guarded;
 use crate::lent::Lent;
+use reference::IMAGE_BYTES;
 
-pub const IMAGE_BYTES: usize = 501;
 const SESSION_WORDS: usize = 32;
 
 /// Longer than any screen that is asked for here.

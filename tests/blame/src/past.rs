@@ -1,7 +1,7 @@
 //! Every state that the reference had since the reset, kept whole, and what
 //! follows from them. No record is read.
 
-use reference::{encode, step, step_meets_two, Machine, Memory, Recorder};
+use reference::{encode, step, step_meets_two, Machine, Memory, Recorder, IMAGE_BYTES};
 use std::rc::Rc;
 
 pub const FRAME: usize = 4_096;
@@ -190,7 +190,7 @@ impl Past {
         let mut machine = self.now().machine.clone();
         machine.on_hand = self.on_hand as u32;
         machine.next_slot = self.next_slot as u32;
-        let mut image = vec![0; 501];
+        let mut image = vec![0; IMAGE_BYTES];
         encode(&machine, &mut image);
         image
     }

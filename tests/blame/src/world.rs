@@ -3,11 +3,11 @@
 use crate::dice::Dice;
 use crate::guarded::Guarded;
 use crate::met::Met;
-use crate::panel::{Panel, IMAGE_BYTES};
+use crate::panel::Panel;
 use crate::past::{Past, FRAME};
 use crate::program::*;
 use crate::session::{Manner, Session};
-use reference::{decode, encode, reset};
+use reference::{decode, encode, reset, IMAGE_BYTES};
 
 const RECORD_BYTES: usize = 256;
 

@@ -2,20 +2,24 @@
 
 use crate::ask::due;
 use crate::faults::Fault;
+use crate::panel::Panel;
 use crate::screen::{self, Before, Blame};
 use crate::session::Said;
 use crate::show;
 use crate::world::World;
-use reference::{run_with_records, take_back};
-
-/// On hand and next slot are the image's last two words.
-const ON_HAND: usize = 493;
-const NEXT_SLOT: usize = 497;
+use reference::{decode, encode, run_with_records, take_back, Machine};
 
 fn flip(bytes: &mut [u8]) {
     if let Some(byte) = bytes.last_mut() {
         *byte ^= 0x40;
     }
+}
+
+fn change(panel: &mut Panel, change: impl FnOnce(&mut Machine)) {
+    let image = panel.lent.image.content_mut();
+    let mut machine = decode(image);
+    change(&mut machine);
+    encode(&machine, image);
 }
 
 fn step_back(world: &mut World) {
@@ -86,20 +90,16 @@ impl Fault {
     }
 
     fn wrong_stand(self, world: &mut World) {
-        let past_on_hand = (world.past.on_hand as u32).to_be_bytes();
-        let past_next = (world.past.next_slot as u32).to_be_bytes();
+        let on_hand = world.past.on_hand as u32;
+        let next_slot = world.past.next_slot as u32;
         let ram = world.past.ram().to_vec();
         let paper = world.past.paper().to_vec();
         let panel = &mut world.session.panel;
         match self {
             Fault::BeforeOneStepLate => step_on(world),
             Fault::BeforeOneStepEarly => step_back(world),
-            Fault::BeforeKeepsOnHand => {
-                panel.lent.image.content_mut()[ON_HAND..][..4].copy_from_slice(&past_on_hand)
-            }
-            Fault::BeforeKeepsNextSlot => {
-                panel.lent.image.content_mut()[NEXT_SLOT..][..4].copy_from_slice(&past_next)
-            }
+            Fault::BeforeKeepsOnHand => change(panel, |machine| machine.on_hand = on_hand),
+            Fault::BeforeKeepsNextSlot => change(panel, |machine| machine.next_slot = next_slot),
             Fault::BeforeKeepsRam => panel.lent.ram.content_mut().copy_from_slice(&ram),
             Fault::BeforeKeepsPaper => panel.lent.paper.content_mut().copy_from_slice(&paper),
             Fault::BeforeWritesJournal => flip(panel.lent.journal.content_mut()),

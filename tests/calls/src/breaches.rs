@@ -8,11 +8,11 @@ use crate::valid::Case;
 
 pub type Breach = (&'static str, fn(&mut Case, &mut Dice) -> bool);
 
-pub const BREACHES: [Breach; 46] = [
-    ("length word 496", |case, _| put(&mut case.length_word, 496)),
-    ("length word 498", |case, _| put(&mut case.length_word, 498)),
-    ("version 0", |case, _| put(&mut case.version, 0)),
-    ("version 2", |case, _| put(&mut case.version, 2)),
+pub const BREACHES: [Breach; 50] = [
+    ("length word one less", |case, _| put(&mut case.length_word, LENGTH_WORD - 1)),
+    ("length word one more", |case, _| put(&mut case.length_word, LENGTH_WORD + 1)),
+    ("the version before", |case, _| put(&mut case.version, VERSION - 1)),
+    ("the version behind", |case, _| put(&mut case.version, VERSION + 1)),
     ("Status outside its mask", |case, dice| outside(case, dice, STATUS, 0x1740_FF3F)),
     ("Cause outside its mask", |case, dice| outside(case, dice, CAUSE, 0xB000_FF7C)),
     ("ExcCode 13", |case, _| exc_code(case, 13)),
@@ -97,6 +97,17 @@ pub const BREACHES: [Breach; 46] = [
         case.slots != 0 && put(&mut case.words[NEXT_SLOT], case.slots)
     }),
     ("next slot 1 without slots", |case, _| case.slots == 0 && put(&mut case.words[NEXT_SLOT], 1)),
+    ("slot flag 2", |case, _| put(&mut case.words[SLOT_FLAG], 2)),
+    ("slot flag over 2", |case, dice| {
+        put(&mut case.words[SLOT_FLAG], 1 << dice.between(2, 31) | dice.below(2))
+    }),
+    ("a branch address without the flag", |case, dice| {
+        let address = 1 << dice.below(32);
+        case.words[SLOT_FLAG] == 0 && put(&mut case.words[BRANCH_ADDRESS], address)
+    }),
+    ("the flag gone, the branch address left", |case, _| {
+        case.words[BRANCH_ADDRESS] != 0 && put(&mut case.words[SLOT_FLAG], 0)
+    }),
 ];
 
 fn put<T>(place: &mut T, value: T) -> bool {

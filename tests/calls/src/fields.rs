@@ -1,14 +1,20 @@
-//! The layout of the state image, written from document 01 and not taken from
-//! the reference: places of words, and names for every byte.
+//! The layout of the state image, written from documents 01 and 02 and not taken
+//! from the reference: places of words, and names for every byte.
 
-pub const IMAGE_BYTES: usize = 501;
-pub const IMAGE_BITS: usize = IMAGE_BYTES * 8;
-pub const LENGTH_WORD: u32 = 497;
-pub const VERSION: u8 = 1;
-pub const WORDS: usize = 124;
+pub const VERSION: u8 = 2;
+pub const WORDS: usize = 126;
 
 /// The words lie behind the length word and the version byte.
 pub const FIRST_WORD: usize = 5;
+
+pub const IMAGE_BYTES: usize = FIRST_WORD + 4 * WORDS;
+pub const IMAGE_BITS: usize = IMAGE_BYTES * 8;
+pub const LENGTH_WORD: u32 = IMAGE_BYTES as u32 - 4;
+
+/// The version before: without the two words of the slot.
+pub const OLD_VERSION: u8 = 1;
+pub const OLD_IMAGE_BYTES: usize = FIRST_WORD + 4 * SLOT_FLAG;
+pub const OLD_LENGTH_WORD: u32 = OLD_IMAGE_BYTES as u32 - 4;
 
 // Places of words, counted from the first word.
 pub const INDEX: usize = 35;
@@ -25,6 +31,8 @@ pub const PRINTERS: usize = 81;
 pub const PENDING: usize = 121;
 pub const ON_HAND: usize = 122;
 pub const NEXT_SLOT: usize = 123;
+pub const SLOT_FLAG: usize = 124;
+pub const BRANCH_ADDRESS: usize = 125;
 
 // Places within the five words of a printer.
 pub const PRINTER_STATUS: usize = 0;
@@ -57,7 +65,7 @@ const fn field(name: &'static str, one_bit: OneBit) -> Field {
 
 /// STATUS and the installed map: between two allowed values more than one bit
 /// differs, or another word has to change as well.
-pub const FIELDS: [Field; 31] = [
+pub const FIELDS: [Field; 33] = [
     field("length word", AlwaysBreaks),
     field("version", AlwaysBreaks),
     field("registers", NeverBreaks),
@@ -89,6 +97,8 @@ pub const FIELDS: [Field; 31] = [
     field("pending map", Either),
     field("steps on hand", Either),
     field("next slot", Either),
+    field("slot flag", Either),
+    field("branch address", Either),
 ];
 
 const FIRST_REGISTER_FIELD: usize = 2;
@@ -100,6 +110,27 @@ const FIRST_LAST_FIELD: usize = 28;
 
 const REGISTERS: usize = 31;
 const CLOCK: usize = 75;
+
+/// The head of an image with this length word and version.
+pub fn head(length_word: u32, version: u8) -> [u8; FIRST_WORD] {
+    let [a, b, c, d] = length_word.to_be_bytes();
+    [a, b, c, d, version]
+}
+
+/// Puts 0 in steps on hand and next slot, which are never taken from a record.
+pub fn clear_journal_place(image: &mut [u8]) {
+    image[FIRST_WORD + 4 * ON_HAND..FIRST_WORD + 4 * (NEXT_SLOT + 1)].fill(0);
+}
+
+/// Whether two images are equal but for these two words.
+pub fn same_but_journal_place(one: &[u8], other: &[u8]) -> bool {
+    let cleared = |image: &[u8]| {
+        let mut image = image.to_vec();
+        clear_journal_place(&mut image);
+        image
+    };
+    cleared(one) == cleared(other)
+}
 
 /// The field in FIELDS that a byte of the image belongs to.
 pub fn field_of(byte: usize) -> usize {

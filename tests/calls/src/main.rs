@@ -18,6 +18,7 @@ mod lavushmir;
 mod archive;
 mod breaches;
 mod edges;
+#[allow(dead_code)]
 mod fields;
 mod judge;
 mod one_bit;

@@ -44,7 +44,7 @@ impl OneBitCounts {
     pub fn report(&self) {
         let met = self.bits_met.iter().filter(|met| **met).count() as u64;
         println!("rules: one bit from valid, by field");
-        at_least("bits changed, of 4,008", met, IMAGE_BITS as u64);
+        at_least(format!("bits changed, of {IMAGE_BITS}"), met, IMAGE_BITS as u64);
         for (place, field) in FIELDS.iter().enumerate() {
             let (kept, broke) = (self.kept[place], self.broke[place]);
             println!("  {:<20} kept {kept:>6}  broke {broke:>6}", field.name);
@@ -54,7 +54,7 @@ impl OneBitCounts {
                 OneBit::Either => kept > 0 && broke > 0,
             };
             if !right {
-                let line = format!("document 01 rules out these counts for {}", field.name);
+                let line = format!("no rules make these counts for {}", field.name);
                 different("rules", &[line]);
             }
         }

@@ -18,7 +18,7 @@ fn random_images(dice: &mut Dice, judge: &mut Judge) {
     for turn in 0..60_000 {
         let mut bytes = dice.bytes(IMAGE_BYTES);
         if turn % 2 == 1 {
-            bytes[..FIRST_WORD].copy_from_slice(&[0, 0, 1, 241, 1]);
+            bytes[..FIRST_WORD].copy_from_slice(&head(LENGTH_WORD, VERSION));
         }
         let like = valid(dice);
         judge.verdict(&bytes, like.paper(), like.journal(), None, &|| "random".to_string());
@@ -66,7 +66,8 @@ fn one_word_replaced(dice: &mut Dice, judge: &mut Judge) {
         }
         for version in 0..=255 {
             let case = Case { version, ..valid(dice) };
-            judge.case(&case, Some(version == 1), &|| format!("valid but for version {version}"));
+            let kept = Some(version == VERSION);
+            judge.case(&case, kept, &|| format!("valid but for version {version}"));
         }
     }
 }

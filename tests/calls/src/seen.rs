@@ -22,7 +22,7 @@ pub struct Seen {
 
 type Corner = (&'static str, fn(&Case) -> bool);
 
-const CORNERS: [Corner; 24] = [
+const CORNERS: [Corner; 27] = [
     ("time scale 1", |case| case.words[TIME_SCALE] == 1),
     ("time scale 255", |case| case.words[TIME_SCALE] == 255),
     ("printer delay 1", |case| case.words[PRINTER_DELAY] == 1),
@@ -58,6 +58,11 @@ const CORNERS: [Corner; 24] = [
     ("Cause with BD on", |case| case.words[CAUSE] >> 31 != 0),
     ("Cause with CE not 0", |case| case.words[CAUSE] >> 28 & 3 != 0),
     ("odd PC", |case| case.words[33] & 1 != 0),
+    ("the slot flag off", |case| case.words[SLOT_FLAG] == 0),
+    ("the slot flag on and a branch address", |case| case.words[BRANCH_ADDRESS] != 0),
+    ("the slot flag on and branch address 0", |case| {
+        case.words[SLOT_FLAG] == 1 && case.words[BRANCH_ADDRESS] == 0
+    }),
 ];
 
 fn count_is(case: &Case, printer: usize, count: u32) -> bool {

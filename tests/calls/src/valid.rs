@@ -111,6 +111,7 @@ pub fn valid(dice: &mut Dice) -> Case {
     fill_printers(dice, &mut case);
     fill_cause(dice, &mut case);
     fill_journal_place(dice, &mut case);
+    fill_slot(dice, &mut case);
     case
 }
 
@@ -148,4 +149,11 @@ fn fill_cause(dice: &mut Dice, case: &mut Case) {
 fn fill_journal_place(dice: &mut Dice, case: &mut Case) {
     case.words[ON_HAND] = up_to(dice, case.slots);
     case.words[NEXT_SLOT] = if case.slots == 0 { 0 } else { up_to(dice, case.slots - 1) };
+}
+
+fn fill_slot(dice: &mut Dice, case: &mut Case) {
+    if dice.chance(2) {
+        case.words[SLOT_FLAG] = 1;
+        case.words[BRANCH_ADDRESS] = any_word(dice);
+    }
 }

@@ -2,9 +2,10 @@
 //! the machine is the one that so many steps from the start make.
 
 use crate::dice::Dice;
+use crate::fields::clear_journal_place;
 use crate::met::Met;
 use crate::scene::{scene, STOPS};
-use crate::sides::{Buffers, Sides, JOURNAL_WORDS};
+use crate::sides::{Buffers, Sides};
 use reference::{Answer, TWO_MATCHES};
 
 struct History<'a> {
@@ -104,7 +105,7 @@ pub fn one(dice: &mut Dice, bytes: &[u8], met: &mut Met) -> Result<(), Vec<Strin
     let slots = dice.pick(&[0, 1, 2, 3, 17, 17]);
     call.journal = bytes[..256 * slots].to_vec();
     // Nothing is on hand at the start.
-    call.image[JOURNAL_WORDS..].fill(0);
+    clear_journal_place(&mut call.image);
     let first = call.budget;
     let sides = Sides::new(call);
     let began = sides.beginning();

@@ -16,7 +16,6 @@ _start:
         lui     $26, MAILBOX_HIGH
         sw      $8, SAVED_8($26)
         sw      $9, SAVED_9($26)
-        sw      $10, SAVED_10($26)
         mfc0    $8, $13
         srl     $8, $8, 2
         andi    $8, $8, 0x1F
@@ -29,14 +28,20 @@ ended:  b       ended
         nop
 
 tick:
-        lw      $8, PERIOD($26)
+        lw      $8, NEXT_PERIOD($26)
         lui     $9, 0x1000
         sw      $8, 0x20($9)
         /* Some entry gives way to one that is never looked for, so that
-           programs of a few pages have misses too. */
+           programs of a few pages have misses too; for the sweep, all do. */
         mtc0    $0, $10
         tlbwr
-        lw      $8, TICKS($26)
+        lw      $8, FLUSHED($26)
+1:      beq     $8, $0, 2f
+        addiu   $8, $8, -0x100
+        mtc0    $8, $0
+        b       1b
+        tlbwi
+2:      lw      $8, TICKS($26)
         nop
         addiu   $8, $8, 1
         b       return
@@ -46,7 +51,6 @@ miss:
         lui     $26, MAILBOX_HIGH
         sw      $8, SAVED_8($26)
         sw      $9, SAVED_9($26)
-        sw      $10, SAVED_10($26)
         mfc0    $8, $10
         lw      $9, PAGE_FLIP($26)
         srl     $8, $8, 12
@@ -60,32 +64,19 @@ miss:
         addiu   $8, $8, 1
         sw      $8, MISSES($26)
 
-        /* An entry does not tell whether it came between a branch and its
-           slot, and the branch's target is lost. So a branch before EPC is
-           run once more; no program jumps into a slot. */
+        /* EPC is the place to go on from, also in a slot: the branch is run once
+           more. A kernel that forgets it, for the test of the sweep itself, goes
+           on in the slot. */
 return:
         mfc0    $27, $14
-        lw      $10, PAGE_FLIP($26)
-        addiu   $9, $27, -4
-        xor     $9, $9, $10
-        lw      $9, 0($9)
-        nop
-        srl     $10, $9, 26
-        beq     $10, $0, special
-        nop
-        b       decided
-        sltiu   $10, $10, 8             # REGIMM, J, JAL, BEQ to BGTZ
-special:
-        andi    $10, $9, 0x3E
-        xori    $10, $10, 8
-        sltiu   $10, $10, 1             # JR, JALR
-decided:
-        sll     $10, $10, 2
-        subu    $27, $27, $10
+        mfc0    $8, $13
+        lw      $9, FORGET($26)
+        sra     $8, $8, 31              # BD
+        and     $8, $8, $9
+        addu    $27, $27, $8
 leave:
         lw      $8, SAVED_8($26)
         lw      $9, SAVED_9($26)
-        lw      $10, SAVED_10($26)
         jr      $27
         rfe
 

@@ -4,7 +4,7 @@ use crate::dice::Dice;
 use crate::elf::segments;
 use crate::expected::Expected;
 use crate::mode::{Mode, Setting};
-use crate::session::{run, Outcome};
+use crate::session::{run, Outcome, TOO_MANY};
 use crate::station::{Roms, Station};
 use std::fs::read;
 use std::path::Path;
@@ -19,14 +19,12 @@ const PROGRAM_MODE: u32 = 0x0200_000C;
 /// Code, data and stack are on pages of their own.
 const LEAST_MISSES: u32 = 3;
 
-/// Not all programs are for all modes: the device area is not for user mode, the
-/// trap of `ends7` is for no other, and the ROM, after a miss on a fetch, reads the
-/// word before the place, which is nowhere too where `ends4` jumps.
+/// Not all programs are for all modes: the device area is not for user mode, and the
+/// trap of `ends7` is for no other.
 pub fn fits(name: &str, mode: Mode) -> bool {
     match mode {
-        Mode::Plain => !name.starts_with("ends7"),
+        Mode::Plain | Mode::Paged => !name.starts_with("ends7"),
         Mode::User => !name.ends_with(PRINTS),
-        Mode::Paged => !name.starts_with("ends4") && !name.starts_with("ends7"),
     }
 }
 
@@ -43,7 +41,7 @@ pub fn judge(
     let delay = u64::from(dice.between(1, 60));
     let setting = mode.setting(dice);
     let start = Station::new(&segments(&file), &setting, slots, dice);
-    let outcome = run(start, roms, mode, delay, dice)?;
+    let outcome = run(start, roms, mode, delay, TOO_MANY, dice)?;
     as_under_qemu(&outcome, name, &Expected::read(folder, name))?;
     in_its_mode(&outcome, mode, &setting)?;
     Ok(outcome)

@@ -16,6 +16,7 @@ mod judge;
 mod mode;
 mod session;
 mod station;
+mod sweep;
 mod totals;
 
 use dice::Dice;
@@ -29,7 +30,7 @@ use std::process::exit;
 use totals::Totals;
 
 const DEFAULT_SEED: u64 = 1;
-const LEAST_PROGRAMS: usize = 69;
+const LEAST_PROGRAMS: usize = 83;
 
 fn usage() -> ! {
     eprintln!("usage: programs FOLDER [SEED]");
@@ -72,6 +73,10 @@ fn main() {
     println!("programs: seed {seed}");
     let rom = |name| read(folder.join(name)).expect("a ROM");
     let roms = Roms { execution: rom("execution.rom"), bootstrap: rom("bootstrap.rom") };
+    if let Err(wrong) = sweep::sweep_all(&folder.join("sweep"), &roms, &mut Dice::new(seed)) {
+        println!("DIFFERENT: sweep of {wrong}");
+        exit(1);
+    }
     let names = program_names(&folder);
     let mut totals = Totals::default();
     for (number, name) in (0..).zip(&names) {
@@ -87,4 +92,8 @@ fn main() {
     }
     println!("programs: all {} equal", names.len());
     totals.print();
+    if !totals.met_slots() {
+        println!("TOO FEW: no interrupt or no miss in a branch's slot");
+        exit(1);
+    }
 }

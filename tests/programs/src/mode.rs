@@ -14,11 +14,21 @@ pub enum Mode {
 
 pub const MODES: [Mode; 3] = [Mode::Plain, Mode::User, Mode::Paged];
 
-/// What the ROMs find in the mailbox.
+/// What the ROMs find in the mailbox; machine/mailbox.h says what each is for.
 pub struct Setting {
     pub status: u32,
     pub period: u32,
+    pub next_period: u32,
     pub page_flip: u32,
+    pub flushed: u32,
+    pub forget: u32,
+}
+
+impl Setting {
+    /// A tick every so many steps, which throws one entry out of the table.
+    fn every(period: u32, status: u32, page_flip: u32) -> Setting {
+        Setting { status, period, next_period: period, page_flip, flushed: 0, forget: 0 }
+    }
 }
 
 /// RAM's frames, a power of 2: a flip of a frame's number stays within them.
@@ -46,15 +56,15 @@ impl Mode {
     /// IM[2] is bit 10, CU[0] bit 28.
     pub fn setting(self, dice: &mut Dice) -> Setting {
         match self {
-            Mode::Plain => Setting { status: 0x1000_0000, period: u32::MAX, page_flip: 0 },
+            Mode::Plain => Setting::every(u32::MAX, 0x1000_0000, 0),
             Mode::User => {
                 let period = dice.between(SHORTEST_PERIOD, 4 * SHORTEST_PERIOD);
-                Setting { status: 0x0000_040C, period, page_flip: 0 }
+                Setting::every(period, 0x0000_040C, 0)
             }
             Mode::Paged => {
                 let period = dice.between(SHORTEST_PAGED_PERIOD, 4 * SHORTEST_PAGED_PERIOD);
                 let flip = dice.between(PROGRAM_FRAMES, FRAMES - 1);
-                Setting { status: 0x0200_0404, period, page_flip: flip << 12 }
+                Setting::every(period, 0x0200_0404, flip << 12)
             }
         }
     }

@@ -15,13 +15,38 @@ const WRITE: u32 = 4004;
 const EXIT: u32 = 4001;
 
 /// Far more steps than any program takes.
-const TOO_MANY: u64 = 20_000_000;
+pub const TOO_MANY: u64 = 20_000_000;
 
 /// How a program ended.
 #[derive(Clone, Copy, PartialEq, Eq, Debug)]
 pub enum End {
     Exit(u32),
     Exception(u32),
+    /// A call that there is not, or of bytes that there are not.
+    BadCall,
+    /// Not within the limit.
+    Never,
+}
+
+/// An interrupt or a miss that the program did not notice.
+#[derive(Clone, Copy, PartialEq, Eq, Debug)]
+pub struct Met {
+    pub code: u32,
+    /// BD.
+    pub in_slot: bool,
+    pub epc: u32,
+    pub bad_vaddr: u32,
+}
+
+impl Met {
+    fn of(machine: &Machine) -> Met {
+        let Machine { cause, epc, bad_vaddr, .. } = *machine;
+        Met { code: cause >> 2 & 31, in_slot: cause >> 31 == 1, epc, bad_vaddr }
+    }
+
+    pub fn is_interrupt(&self) -> bool {
+        self.code == INTERRUPT
+    }
 }
 
 pub struct Outcome {
@@ -29,6 +54,7 @@ pub struct Outcome {
     pub written: Vec<u8>,
     pub steps: u64,
     pub calls: u64,
+    pub met: Vec<Met>,
     /// The archive's side.
     pub station: Station,
 }
@@ -47,49 +73,46 @@ pub fn run(
     roms: &Roms,
     mode: Mode,
     delay: u64,
+    limit: u64,
     dice: &mut Dice,
 ) -> Result<Outcome, String> {
     let mut session = Session { roms, ours: start.clone(), theirs: start, steps: 0, calls: 0 };
     session.reset(delay)?;
-    let mut written = Vec::new();
-    loop {
-        if session.steps > TOO_MANY {
-            return Err("did not end".to_string());
+    let (mut written, mut met) = (Vec::new(), Vec::new());
+    let end = loop {
+        if session.steps > limit {
+            break End::Never;
         }
         if !session.stopped_at_exception(dice)? {
             continue;
         }
         let machine = session.ours.machine();
-        let code = machine.cause >> 2 & 31;
-        let end = match code {
-            INTERRUPT if mode != Mode::Plain => continue,
-            MISS_ON_LOAD | MISS_ON_STORE if mode == Mode::Paged => continue,
-            SYSTEM_CALL => match system_call(&machine, &session.ours, &mut written)? {
+        match machine.cause >> 2 & 31 {
+            INTERRUPT if mode != Mode::Plain => met.push(Met::of(&machine)),
+            MISS_ON_LOAD | MISS_ON_STORE if mode == Mode::Paged => met.push(Met::of(&machine)),
+            SYSTEM_CALL => match system_call(&machine, &session.ours, &mut written) {
                 None => continue,
-                Some(code) => End::Exit(code),
+                Some(end) => break end,
             },
-            _ => End::Exception(code),
-        };
-        let Session { ours, steps, calls, .. } = session;
-        return Ok(Outcome { end, written, steps, calls, station: ours });
-    }
+            code => break End::Exception(code),
+        }
+    };
+    let Session { ours, steps, calls, .. } = session;
+    Ok(Outcome { end, written, steps, calls, met, station: ours })
 }
 
-/// What the host does for a call: nothing to the machine. Gives the exit code.
-fn system_call(
-    machine: &Machine,
-    station: &Station,
-    written: &mut Vec<u8>,
-) -> Result<Option<u32>, String> {
+/// What the host does for a call: nothing to the machine. Some: it was the last.
+fn system_call(machine: &Machine, station: &Station, written: &mut Vec<u8>) -> Option<End> {
     let [number, first, second, third] = [2, 4, 5, 6].map(|at: usize| machine.registers[at]);
-    match number {
-        EXIT => Ok(Some(first)),
-        WRITE => {
-            let bytes = station.bytes(second, third);
-            written.extend(bytes.ok_or("a write of bytes beyond RAM")?);
-            Ok(None)
+    if number == EXIT {
+        return Some(End::Exit(first));
+    }
+    match station.bytes(second, third) {
+        Some(bytes) if number == WRITE => {
+            written.extend(bytes);
+            None
         }
-        _ => Err(format!("system call {number}")),
+        _ => Some(End::BadCall),
     }
 }
 

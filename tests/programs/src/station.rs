@@ -5,8 +5,8 @@ use crate::elf::Segment;
 use crate::mode::{Setting, FRAMES, PROGRAM_FRAMES};
 use reference::{decode, Machine, IMAGE_BYTES};
 
-const RAM: u32 = 0x2000_0000;
-const FRAME: usize = 4096;
+pub const RAM: u32 = 0x2000_0000;
+pub const FRAME: usize = 4096;
 const PAPER: usize = 65_536;
 
 // The mailbox, as in machine/mailbox.h.
@@ -15,6 +15,9 @@ const PERIOD_WORD: usize = 4;
 const TICKS_WORD: usize = 8;
 const FLIP_WORD: usize = 12;
 const MISSES_WORD: usize = 16;
+const NEXT_PERIOD_WORD: usize = 28;
+const FLUSHED_WORD: usize = 32;
+const FORGET_WORD: usize = 36;
 
 /// Both ROMs, lent for reading.
 pub struct Roms {
@@ -39,14 +42,13 @@ impl Station {
             paper: dice.bytes(PAPER),
             journal: dice.bytes(256 * slots),
         };
-        // The mailbox, and the page before the program, where the ROM looks for
-        // a branch before the first instruction.
-        for page in [0, setting.page_flip as usize] {
-            station.ram[page..page + FRAME].fill(0);
-        }
+        station.ram[..FRAME].fill(0);
         station.set_word(STATUS_WORD, setting.status);
-        station.set_word(PERIOD_WORD, setting.period);
+        station.set_word(NEXT_PERIOD_WORD, setting.next_period);
         station.set_word(FLIP_WORD, setting.page_flip);
+        station.set_word(FLUSHED_WORD, setting.flushed);
+        station.set_word(FORGET_WORD, setting.forget);
+        station.set_period(setting.period);
         for segment in segments {
             station.lay(segment, setting.page_flip);
         }
@@ -59,6 +61,10 @@ impl Station {
         for (address, byte) in (segment.address..).zip(&segment.bytes) {
             self.ram[place(address, flip)] = *byte;
         }
+    }
+
+    pub fn set_period(&mut self, period: u32) {
+        self.set_word(PERIOD_WORD, period);
     }
 
     fn set_word(&mut self, at: usize, value: u32) {

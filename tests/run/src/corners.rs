@@ -29,7 +29,7 @@ pub fn table(sight: &Sight) -> bool {
 }
 
 #[rustfmt::skip]
-pub const STEPS: [Corner; 35] = [
+pub const STEPS: [Corner; 39] = [
     ("steps in user mode", 100_000, |s| user_mode(s.before)),
     ("steps with translation on", 100_000, |s| translation(s.before)),
     ("steps in user mode with translation on", 50_000, |s| {
@@ -38,6 +38,12 @@ pub const STEPS: [Corner; 35] = [
     ("steps between a taken branch and its target", 20_000, |s| s.in_slot_of_taken()),
     ("branches in slots", 1_000, |s| s.in_slot_of_taken() && branches(s)),
     ("exceptions in slots", 1_000, |s| s.in_slot_of_taken() && s.code.is_some()),
+    ("steps with the slot flag on", 50_000, |s| s.in_slot()),
+    ("slots of branches not taken", 10_000, |s| s.in_slot() && !s.in_slot_of_taken()),
+    ("exceptions in slots of branches not taken", 1_000, |s| {
+        s.in_slot() && !s.in_slot_of_taken() && s.code.is_some()
+    }),
+    ("interrupts in slots", 1_000, |s| s.in_slot() && s.is(0)),
     ("J or JAL at the end of a region", 1_000, |s| {
         s.before.pc & 0x0FFF_FFFF == 0x0FFF_FFFC && (done(s, 2, 0) || done(s, 3, 0))
     }),

@@ -1,8 +1,12 @@
 //! Names for the bytes of the journal, RAM and paper, by docs/RECORD.md.
 
 use crate::look::RAM;
+use reference::layout::{OLD_LOW, PAPER_BYTES, PRINTERS, PRINTER_WORDS, UNUSED};
 
-const FIRST: [&str; 21] = [
+const LAST_PAPER_BYTE: usize = PAPER_BYTES + 7;
+
+/// The words before those of the printers.
+const FIRST: [&str; OLD_LOW + 1] = [
     "HI",
     "LO",
     "PC",
@@ -15,6 +19,8 @@ const FIRST: [&str; 21] = [
     "Status",
     "Cause",
     "EPC",
+    "slot flag",
+    "branch address",
     "timer",
     "pending map",
     "printers that wrote",
@@ -26,16 +32,18 @@ const FIRST: [&str; 21] = [
     "old low",
 ];
 
-const PRINTER: [&str; 5] = ["STATUS", "COMMAND", "DATA0", "ticks left", "paper count"];
+const PRINTER: [&str; PRINTER_WORDS] = ["STATUS", "COMMAND", "DATA0", "ticks left", "paper count"];
 
 fn record_byte(byte: usize) -> String {
     let word = byte / 4;
-    match word {
-        15 | 16 => format!("paper byte of printer {}", byte - 60),
-        0..=20 => FIRST[word].to_string(),
-        21..=60 => format!("printer {}'s {}", (word - 21) / 5, PRINTER[(word - 21) % 5]),
-        _ => "unused".to_string(),
+    if (PAPER_BYTES..=LAST_PAPER_BYTE).contains(&byte) {
+        return format!("paper byte of printer {}", byte - PAPER_BYTES);
     }
+    if (PRINTERS..UNUSED).contains(&word) {
+        let place = word - PRINTERS;
+        return format!("printer {}'s {}", place / PRINTER_WORDS, PRINTER[place % PRINTER_WORDS]);
+    }
+    FIRST.get(word).unwrap_or(&"unused").to_string()
 }
 
 pub fn journal_byte(place: usize) -> String {

@@ -30,6 +30,7 @@ pub fn scene(dice: &mut Dice, pool: &Pool) -> Call {
     machine.hi = dice.word();
     machine.lo = dice.word();
     journal_place(dice, &mut machine, lengths.slots);
+    slot(dice, &mut machine);
     encode(&machine, &mut call.image);
     call
 }
@@ -71,4 +72,13 @@ fn journal_place(dice: &mut Dice, machine: &mut Machine, slots: u32) {
         _ => dice.between(0, slots),
     };
     machine.next_slot = if dice.chance(4) { slots - 1 } else { dice.below(slots) };
+}
+
+/// Now and then the first step is a slot, mostly of the word before it.
+fn slot(dice: &mut Dice, machine: &mut Machine) {
+    if dice.chance(8) {
+        machine.slot_flag = 1;
+        let before = machine.pc.wrapping_sub(4);
+        machine.branch_address = if dice.chance(4) { dice.word() } else { before };
+    }
 }

@@ -97,6 +97,11 @@ impl Sight<'_> {
         self.before.next_pc != self.before.pc.wrapping_add(4)
     }
 
+    /// The step before executed a branch or jump, taken or not.
+    pub fn in_slot(&self) -> bool {
+        self.before.slot_flag == 1
+    }
+
     pub fn timer_passes(&self) -> bool {
         self.before.timer == 0
     }

@@ -1,6 +1,7 @@
 //! Values of what run is given: right ones and wrong ones, edges first.
 
 use crate::dice::Dice;
+use crate::fields::{IMAGE_BYTES, OLD_IMAGE_BYTES};
 
 /// One length or number, with whether it passes its row.
 pub struct Choices {
@@ -23,6 +24,8 @@ pub const BUDGET: usize = 6;
 
 const MOST_RAM: u64 = 4_096 * 4_096;
 const MOST_JOURNAL: u64 = 16_777_216;
+const WHOLE: u64 = IMAGE_BYTES as u64;
+const OLD: u64 = OLD_IMAGE_BYTES as u64;
 
 const ROM_RIGHT: &[u64] = &[4, 8, 12, 512, 65_532, 65_536];
 #[rustfmt::skip]
@@ -58,9 +61,9 @@ pub const CHOICES: [Choices; 7] = [
     },
     Choices {
         name: "image", row: 5,
-        right: &[501],
-        wrong: &[0, 1, 4, 5, 497, 500, 502, 505, 1_002],
-        cheap: (1, 9),
+        right: &[WHOLE],
+        wrong: &[0, 1, 4, 5, WHOLE - 4, WHOLE - 1, WHOLE + 1, WHOLE + 4, 2 * WHOLE, OLD],
+        cheap: (1, 10),
     },
     Choices {
         name: "budget", row: 6,

@@ -5,22 +5,16 @@ use crate::dice::Dice;
 use crate::history::History;
 use crate::met::Met;
 use crate::program::{PLACES, START};
-
-const KIND: usize = 68;
-const PLACE: usize = 72;
-const RAM_WORD: u32 = 3;
-
-fn word(bytes: &[u8], at: usize) -> u32 {
-    u32::from_le_bytes(bytes[at..][..4].try_into().expect("four bytes"))
-}
+use reference::layout::{word, KIND, RAM_WORD, RECORD_BYTES, WHICH};
 
 /// Stores to `place` among the newest `count` records, for the counts only.
 fn stores(history: &History, mark: Mark, place: u32, count: usize) -> usize {
     (1..=count)
         .filter(|k| {
             let slot = (mark.next_slot as usize + history.slots - k) % history.slots;
-            let record = &history.journal[256 * slot..][..256];
-            word(record, KIND) == RAM_WORD && word(record, PLACE) == place
+            let record = &history.journal[RECORD_BYTES * slot..][..RECORD_BYTES];
+            let record = record.try_into().expect("a slot is one record");
+            word(record, KIND) == RAM_WORD && word(record, WHICH) == place
         })
         .count()
 }

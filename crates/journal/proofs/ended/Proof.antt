@@ -58,7 +58,7 @@ returns-2 c =
     let put = c .before .before .before .before in
     let worded = put .before .before .before in
     let start = worded .before .before .before .before in
-    let at : ℕ = 256 * start .args .mark .«next_slot» + 68 in
+    let at : ℕ = 256 * start .args .mark .«next_slot» + 76 in
     ended-as (start .args .mark) (start .args .journal .now) (start .args .s) _ (omega arith)
     (put .put-words .ensures ∙ ap (λ (ws : List ℕ). sets (start .args .journal .now) at (flat (toBytes 4) ws)) (worded .saved-words .ensures))
     (omega (arith, start .pre .sound .most)) (c .before .next-slot .ensures)
@@ -71,7 +71,7 @@ returns-3 c =
     let put = c .before .before .before .before in
     let worded = put .before .before .before in
     let start = worded .before .before .before .before in
-    let at : ℕ = 256 * start .args .mark .«next_slot» + 68 in
+    let at : ℕ = 256 * start .args .mark .«next_slot» + 76 in
     ended-as (start .args .mark) (start .args .journal .now) (start .args .s) _ (omega arith)
     (put .put-words .ensures ∙ ap (λ (ws : List ℕ). sets (start .args .journal .now) at (flat (toBytes 4) ws)) (worded .saved-words .ensures))
     (omega (arith, start .pre .sound .most)) (c .before .next-slot .ensures)

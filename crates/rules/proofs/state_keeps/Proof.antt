@@ -25,6 +25,9 @@ ranges-keep-requires c κs = search needs
 line-keeps-requires : tie.Need-line-keeps-requires
 line-keeps-requires c κs = search needs
 
+slot-keeps-requires : tie.Need-slot-keeps-requires
+slot-keeps-requires c κs = search needs
+
 returns : tie.Need-returns
 unfolding stateKeeps
 returns c = cc
@@ -40,4 +43,5 @@ state-keeps-spec =
     cast-ranges-keep-3
     ranges-keep-requires
     line-keeps-requires
+    slot-keeps-requires
     returns)

@@ -47,7 +47,7 @@ Inv-loop settings execution bootstrap ram₀ paper₀ journal₀ budget stop cor
     × Told held words
     × slots.Ready journal mark
     × (length rows ≡ 16)
-    × (length core ≡ 12)
+    × (length core ≡ 14)
     × Reached (forward (romsOf execution bootstrap)) (slotsOf journal₀) budget stop
     (configOf (romsOf execution bootstrap) settings (record { core = core₀; held = held₀; regs = regs₀; rows = rows₀; words = words₀; mark = mark₀ })
     (besideOf execution bootstrap ram₀ paper₀ journal₀))
@@ -179,7 +179,7 @@ module _ (c : After) where
         × Told (partsThen .held) (partsThen .words)
         × slots.Ready (besideThen .journal) (partsThen .mark)
         × (length rows ≡ 16)
-        × (length (partsThen .core) ≡ 12)
+        × (length (partsThen .core) ≡ 14)
         × Reached (forward roms) (slotsOf (a .args .journal .now)) (a .args .budget) (a .args .stop) from (h .loop .steps + 1) there
 
     again : (a .args .stop && enters e) ≡ false → Onward
@@ -192,7 +192,7 @@ module _ (c : After) where
           turn-is .told,
           turns.ready (slotsOf (a .args .journal .now)) (a .args .budget) (a .args .stop) turn-is journal-long (i .5),
           long,
-          turn-is .twelve,
+          turn-is .fourteen,
           turns.goes _ _ (a .args .stop) turn-is same told rows left-rows from (h .loop .steps) (left-of c) (i .8) (once-at c) q,
         )
 
@@ -213,7 +213,7 @@ next-look-requires c κs = search needs
 loop-holds : tie.Need-loop-holds Inv-loop μ-loop
 loop-holds c =
     let start = c .before .before .before .before .before .before .before .before .before .before .before .before in
-    (next-look _ 0 _ _ (omega arith) (c .next-look .ensures), refl, refl, refl, start .pre .told, start .pre .ready, start .pre .table, start .pre .twelve, reached-start _ _ _ _ _)
+    (next-look _ 0 _ _ (omega arith) (c .next-look .ensures), refl, refl, refl, start .pre .told, start .pre .ready, start .pre .table, start .pre .fourteen, reached-start _ _ _ _ _)
 
 looked-requires : tie.Need-looked-requires Inv-loop μ-loop
 looked-requires c κs =
@@ -225,7 +225,7 @@ start-requires : tie.Need-start-requires Inv-loop μ-loop
 start-requires c κs =
     let h = headOf (c .before .before .before .before .before) in
     record {
-      twelve = h .loop .inv .7;
+      fourteen = h .loop .inv .7;
       told = h .loop .inv .4;
       short = rw (h .loop .inv .2) (entry h .pre .short);
       ready = h .loop .inv .5;

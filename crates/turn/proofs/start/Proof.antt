@@ -4,7 +4,7 @@ use Rattle.turn.proofs.start.Statement.{statement}
 use Rattle.turn.proofs.start.Tie as tie
 
 begin-requires : tie.Need-begin-requires
-begin-requires c κs = let start = c .before .before .before .before .before .before in (start .pre .ready, (start .pre .twelve, start .pre .told))
+begin-requires c κs = let start = c .before .before .before .before .before .before in (start .pre .ready, (start .pre .fourteen, start .pre .told))
 
 ticked-requires : tie.Need-ticked-requires
 ticked-requires c κs =

@@ -41,6 +41,12 @@ element-copy-out-t23-2 c = search needs
 element-copy-out-t20-2 : tie.Need-element-copy-out-t20-2
 element-copy-out-t20-2 c = search needs
 
+element-copy-out-t17-2 : tie.Need-element-copy-out-t17-2
+element-copy-out-t17-2 c = search needs
+
+element-copy-out-t14-2 : tie.Need-element-copy-out-t14-2
+element-copy-out-t14-2 c = search needs
+
 returns : tie.Need-returns
 unfolding coreIn
 returns c = refl
@@ -61,4 +67,6 @@ core-in-spec =
     element-copy-out-t26-2
     element-copy-out-t23-2
     element-copy-out-t20-2
+    element-copy-out-t17-2
+    element-copy-out-t14-2
     returns)

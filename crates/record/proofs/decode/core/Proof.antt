@@ -18,10 +18,24 @@ word-requires-4 c κs = search needs
 cp0-requires : tie.Need-cp0-requires
 cp0-requires c κs = search needs
 
+word-requires-5 : tie.Need-word-requires-5
+word-requires-5 c κs = search needs
+
+word-requires-6 : tie.Need-word-requires-6
+word-requires-6 c κs = search needs
+
 returns : tie.Need-returns
 returns c = cc
 
 pub core-spec : {M : Type 1} → statement M
 core-spec =
     tie.close
-    (tie.spec word-requires word-requires-2 word-requires-3 word-requires-4 cp0-requires returns)
+    (tie.spec
+    word-requires
+    word-requires-2
+    word-requires-3
+    word-requires-4
+    cp0-requires
+    word-requires-5
+    word-requires-6
+    returns)

@@ -68,11 +68,8 @@ put-core-requires-4 c κs = search needs
 enum-known-effect-5 : tie.Need-enum-known-effect-5
 enum-known-effect-5 c = search needs
 
-entered-requires : tie.Need-entered-requires
-entered-requires c κs = search needs
-
-with-cp0-requires-3 : tie.Need-with-cp0-requires-3
-with-cp0-requires-3 c κs = search needs
+raised-requires : tie.Need-raised-requires
+raised-requires c κs = search needs
 
 put-core-requires-5 : tie.Need-put-core-requires-5
 put-core-requires-5 c κs = search needs
@@ -110,9 +107,9 @@ returns-9 c = rw (c .before .before .before .before .effect4 .given .1) (put-bac
 
 returns-10 : tie.Need-returns-10
 returns-10 c =
-    rw (c .before .before .before .before .before .effect5 .given .1)
-    (put-back (c .put-core5 .ensures) ∙ c .before .before .with-cp03 .ensures ∙ rw (c .before .before .before .entered .ensures, c .before .before .before .before .before .before .before .core-in .ensures))
+    rw (c .before .before .before .before .effect5 .given .1)
+    (put-back (c .put-core5 .ensures) ∙ c .before .before .raised .ensures ∙ rw (c .before .before .before .before .before .before .core-in .ensures))
 
 pub move-core-spec : {M : Type 1} → statement M
 move-core-spec =
-    tie.close (tie.spec core-in-requires enum-told enum-told-2 enum-known-effect with-hi-lo-requires put-core-requires enum-known-effect-2 with-register-requires with-cp0-requires put-core-requires-2 enum-known-effect-3 with-entry-requires with-cp0-requires-2 put-core-requires-3 enum-told-3 enum-told-4 enum-told-5 enum-known-effect-4 stored-lines-requires put-core-requires-4 enum-known-effect-5 entered-requires with-cp0-requires-3 put-core-requires-5 returns returns-2 returns-3 returns-4 returns-5 returns-6 returns-7 returns-8 returns-9 returns-10)
+    tie.close (tie.spec core-in-requires enum-told enum-told-2 enum-known-effect with-hi-lo-requires put-core-requires enum-known-effect-2 with-register-requires with-cp0-requires put-core-requires-2 enum-known-effect-3 with-entry-requires with-cp0-requires-2 put-core-requires-3 enum-told-3 enum-told-4 enum-told-5 enum-known-effect-4 stored-lines-requires put-core-requires-4 enum-known-effect-5 raised-requires put-core-requires-5 returns returns-2 returns-3 returns-4 returns-5 returns-6 returns-7 returns-8 returns-9 returns-10)

@@ -1,0 +1,35 @@
+-- `convert::judged` meets its contract.
+use borrow.Author.Needs.{needs}
+use Rattle.convert.specs.Convert.{machineBefore, keepsBefore}
+use Rattle.convert.proofs.judged.Statement.{statement}
+use Rattle.convert.proofs.judged.Tie as tie
+
+widened-requires : tie.Need-widened-requires
+widened-requires c κs = search needs
+
+slice-aggregate-decode : tie.Need-slice-aggregate-decode
+slice-aggregate-decode c = search needs
+
+decode-requires : tie.Need-decode-requires
+decode-requires c κs = search needs
+
+header-keeps-requires : tie.Need-header-keeps-requires
+header-keeps-requires c κs = search needs
+
+machine-keeps-requires : tie.Need-machine-keeps-requires
+machine-keeps-requires c κs = search needs
+
+returns : tie.Need-returns
+unfolding machineBefore keepsBefore
+returns c = cc
+
+pub judged-spec : {M : Type 1} → statement M
+judged-spec =
+    tie.close
+    (tie.spec
+    widened-requires
+    slice-aggregate-decode
+    decode-requires
+    header-keeps-requires
+    machine-keeps-requires
+    returns)

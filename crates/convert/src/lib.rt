@@ -1,0 +1,93 @@
+// Request L2: an image of the version before becomes one of this version.
+ghost use mathlib.Core.Path.{_≡_};
+ghost use mathlib.Core.List.{_++_};
+ghost use lib.ListN.{length, replicate};
+ghost use Rattle.convert.specs.Convert.{headerBefore, machineBefore, keepsBefore, emptied, ConvertIs};
+use answer::Answer;
+use answer::Reason;
+use answer::Refusal;
+use answer::lent::journal_fits;
+use answer::lent::paper_fits;
+use rules::Verdict;
+use rules::machine_keeps;
+use state::IMAGE;
+use state::decode::decode;
+use state::encode::encode;
+use state::machine::Journal;
+use state::machine::Machine;
+use word::big::word_at;
+
+// The bytes of an image of the version before.
+pub const OLD: usize = 501;
+
+// The old bytes, and 0 for the words that are new.
+fn widened(old: &[u8]) -> [u8; 509]
+    requires { ⌜ length (now old) ≡ 501 ⌝ }
+    ensures { λ r. ⌜ r ≡ now (old .entry) ++ replicate 8 0 ⌝ }
+{
+    let mut wide = [0u8; 509];
+    for i in 0..501 {
+        wide[i] = old[i];
+    }
+    wide
+}
+
+fn header_keeps(old: &[u8]) -> bool
+    requires { ⌜ length (now old) ≡ 501 ⌝ }
+    ensures { λ r. ⌜ r ≡ headerBefore (now (old .entry)) ⌝ }
+{
+    (word_at(old, 0) == 497) & (old[4] == 1)
+}
+
+// The machine beside the answer, so that it is decoded once.
+fn judged(old: &[u8], paper: usize, journal: usize) -> Verdict
+    requires { ⌜ length (now old) ≡ 501 ⌝ }
+    ensures { λ r. ⌜ r ≡ record { keeps = keepsBefore (now (old .entry)) paper journal; machine = machineBefore (now (old .entry)) } ⌝ }
+{
+    let wide = widened(old);
+    let machine = decode(&wide);
+    let keeps = header_keeps(old) & machine_keeps(machine, paper, journal);
+    Verdict { keeps, machine }
+}
+
+fn emptied(m: Machine) -> Machine
+    ensures { λ r. ⌜ r ≡ emptied m ⌝ }
+{
+    let cpu = m.cpu;
+    let board = m.board;
+    let j = m.journal;
+    Machine {
+        cpu,
+        board,
+        journal: Journal {
+            on_hand: 0,
+            next_slot: j.next_slot,
+        },
+    }
+}
+
+// Writes `image` alone; `paper` and `journal` are lent for their lengths, which the rules name.
+pub fn convert(old: &[u8], image: &mut [u8], paper: &[u8], journal: &[u8]) -> Answer
+    ensures { λ r. ⌜ ConvertIs (now (old .entry)) (now (image .entry)) (length (now (paper .entry))) (length (now (journal .entry))) r (now (image .exit)) ⌝ }
+{
+    if !paper_fits(paper.len()) {
+        return Answer::Refused(Refusal::Paper);
+    }
+    if !journal_fits(journal.len()) {
+        return Answer::Refused(Refusal::Journal);
+    }
+    if old.len() != OLD {
+        return Answer::Refused(Refusal::Image);
+    }
+    if image.len() != IMAGE {
+        return Answer::Refused(Refusal::Image);
+    }
+    let verdict = judged(old, paper.len(), journal.len());
+    if !verdict.keeps {
+        return Answer::Refused(Refusal::Image);
+    }
+    let was = verdict.machine;
+    let m = emptied(was);
+    encode(m, image);
+    Answer::Done(0, Reason::NoReason)
+}

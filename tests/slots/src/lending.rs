@@ -1,0 +1,52 @@
+//! The archive's calls, or, while a fault is set, calls that are wrong on purpose
+//! in their place.
+
+use crate::archive;
+use crate::faults::Fault;
+use crate::lavushmir;
+use crate::lent::{Lent, Slices};
+use crate::{wrong_back, wrong_convert, wrong_reset};
+use std::cell::Cell;
+
+thread_local! {
+    static FAULT: Cell<Option<Fault>> = Cell::new(None);
+}
+
+pub fn set_fault(fault: Option<Fault>) {
+    FAULT.with(|now| now.set(fault));
+}
+
+fn fault() -> Option<Fault> {
+    FAULT.with(Cell::get)
+}
+
+pub fn reset(lent: &mut Lent, parameters: [u64; 3]) -> u64 {
+    match fault() {
+        None => archive::reset(lent, parameters),
+        Some(fault) => wrong_reset::reset(fault, lent.image.content_mut(), parameters),
+    }
+}
+
+pub fn run(lent: &mut Lent, budget: u64, stop: u64) -> u64 {
+    match fault() {
+        None => archive::run(lent, budget, stop),
+        Some(fault) => lent.slices().run(fault, budget, stop).packed(),
+    }
+}
+
+pub fn take_back(lent: &mut Lent, steps: u64) -> u64 {
+    match fault() {
+        None => archive::take_back(lent, steps),
+        Some(fault) => {
+            let Slices { image, ram, paper, journal, .. } = lent.slices();
+            wrong_back::take_back(fault, image, ram, paper, journal, steps).packed()
+        }
+    }
+}
+
+pub fn convert(old: &[u8], image: &mut [u8], paper: &[u8], journal: &[u8]) -> u64 {
+    match fault() {
+        None => lavushmir::convert(old, image, paper, journal),
+        Some(fault) => wrong_convert::convert(fault, old, image, paper, journal).packed(),
+    }
+}

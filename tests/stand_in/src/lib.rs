@@ -1,0 +1,141 @@
+//! The reference behind the calls of include/lavushmir.h, and behind those that
+//! tests/calls asks of the probe.
+
+#![allow(clippy::missing_safety_doc, clippy::too_many_arguments)]
+
+use std::slice::{from_raw_parts, from_raw_parts_mut};
+
+/// SAFETY, here and below: as include/lavushmir.h asks, each pointer and length
+/// are those of one live buffer, and none is lent twice.
+unsafe fn read<'a>(buffer: *const u8, bytes: usize) -> &'a [u8] {
+    from_raw_parts(buffer, bytes)
+}
+
+unsafe fn write<'a>(buffer: *mut u8, bytes: usize) -> &'a mut [u8] {
+    from_raw_parts_mut(buffer, bytes)
+}
+
+#[no_mangle]
+pub unsafe extern "C" fn lavushmir_reset(
+    image: *mut u8,
+    image_bytes: usize,
+    time_scale: u64,
+    printer_delay: u64,
+    installed: u64,
+) -> u64 {
+    let image = write(image, image_bytes);
+    reference::reset(image, time_scale, printer_delay, installed).packed()
+}
+
+#[no_mangle]
+pub unsafe extern "C" fn lavushmir_run(
+    image: *mut u8,
+    image_bytes: usize,
+    execution_rom: *const u8,
+    execution_rom_bytes: usize,
+    bootstrap_rom: *const u8,
+    bootstrap_rom_bytes: usize,
+    ram: *mut u8,
+    ram_bytes: usize,
+    paper: *mut u8,
+    paper_bytes: usize,
+    journal: *mut u8,
+    journal_bytes: usize,
+    budget: u64,
+    stop_at_exceptions: u64,
+) -> u64 {
+    reference::run_with_records(
+        write(image, image_bytes),
+        read(execution_rom, execution_rom_bytes),
+        read(bootstrap_rom, bootstrap_rom_bytes),
+        write(ram, ram_bytes),
+        write(paper, paper_bytes),
+        write(journal, journal_bytes),
+        budget,
+        stop_at_exceptions,
+    )
+    .packed()
+}
+
+#[no_mangle]
+pub unsafe extern "C" fn lavushmir_take_back(
+    image: *mut u8,
+    image_bytes: usize,
+    ram: *mut u8,
+    ram_bytes: usize,
+    paper: *mut u8,
+    paper_bytes: usize,
+    journal: *const u8,
+    journal_bytes: usize,
+    steps: u64,
+) -> u64 {
+    reference::take_back(
+        write(image, image_bytes),
+        write(ram, ram_bytes),
+        write(paper, paper_bytes),
+        read(journal, journal_bytes),
+        steps,
+    )
+    .packed()
+}
+
+#[no_mangle]
+pub unsafe extern "C" fn lavushmir_convert(
+    old: *const u8,
+    old_bytes: usize,
+    image: *mut u8,
+    image_bytes: usize,
+    paper: *const u8,
+    paper_bytes: usize,
+    journal: *const u8,
+    journal_bytes: usize,
+) -> u64 {
+    reference::convert(
+        read(old, old_bytes),
+        write(image, image_bytes),
+        read(paper, paper_bytes),
+        read(journal, journal_bytes),
+    )
+    .packed()
+}
+
+#[no_mangle]
+pub unsafe extern "C" fn lavushmir_test_rules(
+    image: *const u8,
+    image_bytes: usize,
+    paper: u64,
+    journal: u64,
+) -> u64 {
+    let image = read(image, image_bytes);
+    reference::keeps_rules(image, paper as usize, journal as usize).into()
+}
+
+#[no_mangle]
+pub unsafe extern "C" fn lavushmir_test_rom_answer(
+    execution: *const u8,
+    execution_bytes: usize,
+    bootstrap: *const u8,
+    bootstrap_bytes: usize,
+    address: u64,
+) -> u64 {
+    let (execution, bootstrap) =
+        (read(execution, execution_bytes), read(bootstrap, bootstrap_bytes));
+    reference::rom_answer(execution, bootstrap, address).into()
+}
+
+#[no_mangle]
+pub unsafe extern "C" fn lavushmir_test_rom_window(
+    execution: *const u8,
+    execution_bytes: usize,
+    bootstrap: *const u8,
+    bootstrap_bytes: usize,
+    address: u64,
+    out: *mut u8,
+    out_bytes: usize,
+) -> u64 {
+    let (execution, bootstrap) =
+        (read(execution, execution_bytes), read(bootstrap, bootstrap_bytes));
+    let window = reference::rom_window(execution, bootstrap, address);
+    write(out, out_bytes)[..window.len()].copy_from_slice(window);
+    window.len() as u64
+}
