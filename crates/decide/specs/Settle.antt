@@ -87,5 +87,5 @@ module _ (core : Core) (regs : List ℕ) (lent : Lent) where
   settleOf (intent.Store op x va reached) = storedOf core lent op x va reached
   settleOf (intent.SetControl r word) = onOf core (Control r word)
   settleOf (intent.SetEntry row) = onOf core (Entry row)
-  settleOf (intent.SetRow i row) = onOf core (TlbRow i row)
+  settleOf (intent.SetRow i row) = onOf core (TlbRow i (row .high) (row .low))
   settleOf (intent.Trap code coprocessor) = trappedOf core code coprocessor

@@ -9,7 +9,7 @@ pub enum Effect {
     HiLo(u32, u32),
     Control(ControlRegister, u32),
     Entry(Row), // EntryHi and EntryLo
-    TlbRow(u32, Row), // index below 16
+    TlbRow(u32, u32, u32), // index below 16, EntryHi, EntryLo
     Ram(u32, u32), // place, a multiple of 4, and the word there
     DeviceLoad(u32, u32), // register 1 to 31, offset in the device area: the caller reads the bus
     DeviceStore(u32, u32), // offset in the device area, word

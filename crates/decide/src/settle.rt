@@ -203,7 +203,7 @@ pub fn settle(
         Intent::Store(op, x, va, to) => stored(op, x, va, to, core, execution, bootstrap, ram),
         Intent::SetControl(r, word) => on(core, Effect::Control(r, word)),
         Intent::SetEntry(row) => on(core, Effect::Entry(row)),
-        Intent::SetRow(i, row) => on(core, Effect::TlbRow(i, row)),
+        Intent::SetRow(i, row) => on(core, Effect::TlbRow(i, row.high, row.low)),
         Intent::Trap(code, z) => trapped(core, code, z),
     }
 }

@@ -16,6 +16,7 @@ use Rattle.memory.specs.Memory.{storedAt}
 use Rattle.memory.proofs.OneCell.{to-below}
 use Rattle.tlb.specs.Entry.{noRow}
 use Rattle.tlb.specs.declared.Row.{Row}
+use Rattle.state.specs.Layout.{rowOf}
 use Rattle.decide.specs.Range.{Within}
 use Rattle.decide.specs.declared.effect.Effect.{Effect}
 use Rattle.decide.specs.declared.effect.Effect.the-variants.{Nothing, Register, HiLo, Control, Entry, TlbRow, Ram, DeviceLoad, DeviceStore, Raise}
@@ -71,8 +72,8 @@ effect-sound sizes (Control r word) w c s i l =
     record { regs = s .regs; core = with-cp0 (s .core) _ _ l; rows = s .rows; board = s .board; ram = s .ram; paper = s .paper }
 effect-sound sizes (Entry row) w c s i l =
     record { regs = s .regs; core = with-cp0 (s .core) _ _ l; rows = s .rows; board = s .board; ram = s .ram; paper = s .paper }
-effect-sound sizes (TlbRow k row) w c s i l =
-    record { regs = s .regs; core = s .core; rows = row-set k row (s .rows) i l; board = s .board; ram = s .ram; paper = s .paper }
+effect-sound sizes (TlbRow k high low) w c s i l =
+    record { regs = s .regs; core = s .core; rows = row-set k (rowOf high low) (s .rows) i l; board = s .board; ram = s .ram; paper = s .paper }
 effect-sound sizes (Ram at word) w c s i l =
     record { regs = s .regs; core = s .core; rows = s .rows; board = s .board; ram = bytes-stored (w .ram) at word (s .ram); paper = s .paper }
 effect-sound sizes (DeviceLoad d offset) w c s i l =

@@ -30,7 +30,7 @@ effect-lengths sizes rows (Register d word) w i = record { ram = refl; paper = r
 effect-lengths sizes rows (HiLo hi lo) w i = record { ram = refl; paper = refl }
 effect-lengths sizes rows (Control r word) w i = record { ram = refl; paper = refl }
 effect-lengths sizes rows (Entry row) w i = record { ram = refl; paper = refl }
-effect-lengths sizes rows (TlbRow k row) w i = record { ram = refl; paper = refl }
+effect-lengths sizes rows (TlbRow k high low) w i = record { ram = refl; paper = refl }
 effect-lengths sizes rows (Ram at word) w i = record { ram = length-stored 4 (w .ram) at (i .1) word; paper = refl }
 effect-lengths sizes rows (DeviceLoad d offset) w i = record { ram = refl; paper = refl }
 effect-lengths sizes rows (DeviceStore offset word) w i = record { ram = refl; paper = refl }

@@ -98,5 +98,5 @@ module _ (core : Core) (pending : ℕ) (regs : List ℕ) (t : List Row) (lent : 
   settle-proper (intent.Store op x va (Exception miss code)) h = refused-proper code miss va (h .2) (h .1)
   settle-proper (intent.SetControl r word) h = on-proper (effect.Control r word) h
   settle-proper (intent.SetEntry row) h = on-proper (effect.Entry row) h
-  settle-proper (intent.SetRow i row) h = on-proper (effect.TlbRow i row) h
+  settle-proper (intent.SetRow i row) h = on-proper (effect.TlbRow i (row .high) (row .low)) h
   settle-proper (intent.Trap code coprocessor) h = trapped-proper code coprocessor h

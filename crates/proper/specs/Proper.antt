@@ -10,7 +10,7 @@ use Rattle.cp0.specs.Registers.{withRegister, withEntry}
 use Rattle.cp0.specs.declared.registers.Cp0.{Cp0}
 use Rattle.tlb.specs.Entry.{noRow}
 use Rattle.tlb.specs.declared.Row.{Row}
-use Rattle.state.specs.Layout.{cp0Words, keptWords}
+use Rattle.state.specs.Layout.{cp0Words, rowOf, keptWords}
 use Rattle.state.specs.Slot.{inSlot, returnOf}
 use Rattle.state.specs.declared.machine.Core.{Core}
 use Rattle.rules.specs.Rules.{entryKeeps, cp0Keeps}
@@ -47,7 +47,7 @@ Leaves core pending (Register d word) = word < 2 ^ 32
 Leaves core pending (HiLo hi lo) = (hi < 2 ^ 32) × (lo < 2 ^ 32)
 Leaves core pending (Control r word) = ControlGood (withRegister r word (core .cp0)) pending
 Leaves core pending (Entry row) = ControlGood (withEntry (row .high) (row .low) (core .cp0)) pending
-Leaves core pending (TlbRow i row) = RowGood row
+Leaves core pending (TlbRow i high low) = RowGood (rowOf high low)
 Leaves core pending (Ram at word) = word < 2 ^ 32
 Leaves core pending (DeviceLoad d offset) = Unit {0}
 Leaves core pending (DeviceStore offset word) = word < 2 ^ 32

@@ -10,6 +10,7 @@ use Rattle.bus.specs.declared.read.Bus.{Bus}
 use Rattle.printer.specs.declared.Printer.{Printer}
 use Rattle.tlb.specs.Entry.{noRow}
 use Rattle.tlb.specs.declared.Row.{Row}
+use Rattle.state.specs.Layout.{rowOf}
 use Rattle.state.specs.declared.machine.Board.{Board}
 use Rattle.decide.specs.Range.{Within}
 use Rattle.decide.specs.declared.effect.Effect.{Effect}
@@ -30,7 +31,7 @@ module _ (regs : List ℕ) (t : List Row) (ram : List ℕ) where
   regs-back b printers (HiLo hi lo) = refl
   regs-back b printers (Control r word) = refl
   regs-back b printers (Entry row) = refl
-  regs-back b printers (TlbRow i row) = refl
+  regs-back b printers (TlbRow i high low) = refl
   regs-back b printers (Ram at word) = refl
   regs-back b printers (DeviceLoad d offset) = set-back regs d _ 0
   regs-back b printers (DeviceStore offset word) = refl
@@ -42,7 +43,7 @@ module _ (regs : List ℕ) (t : List Row) (ram : List ℕ) where
   rows-back (HiLo hi lo) = refl
   rows-back (Control r word) = refl
   rows-back (Entry row) = refl
-  rows-back (TlbRow i row) = set-back t i row noRow
+  rows-back (TlbRow i high low) = set-back t i (rowOf high low) noRow
   rows-back (Ram at word) = refl
   rows-back (DeviceLoad d offset) = refl
   rows-back (DeviceStore offset word) = refl
@@ -55,7 +56,7 @@ module _ (regs : List ℕ) (t : List Row) (ram : List ℕ) where
   ram-back rows (HiLo hi lo) i bytes = refl
   ram-back rows (Control r word) i bytes = refl
   ram-back rows (Entry row) i bytes = refl
-  ram-back rows (TlbRow k row) i bytes = refl
+  ram-back rows (TlbRow k high low) i bytes = refl
   ram-back rows (Ram at word) i bytes = cells.stored-back 4 ram at (i .1) word bytes
   ram-back rows (DeviceLoad d offset) i bytes = refl
   ram-back rows (DeviceStore offset word) i bytes = refl
@@ -68,7 +69,7 @@ clock-of timer (Register d word) b = refl
 clock-of timer (HiLo hi lo) b = refl
 clock-of timer (Control r word) b = refl
 clock-of timer (Entry row) b = refl
-clock-of timer (TlbRow i row) b = refl
+clock-of timer (TlbRow i high low) b = refl
 clock-of timer (Ram at word) b = refl
 clock-of timer (DeviceLoad d offset) b = refl
 clock-of timer (DeviceStore offset word) b = times.stored-back timer (busWriteOf offset word) (b .clock)
@@ -81,7 +82,7 @@ settings-of (Register d word) b = refl
 settings-of (HiLo hi lo) b = refl
 settings-of (Control r word) b = refl
 settings-of (Entry row) b = refl
-settings-of (TlbRow i row) b = refl
+settings-of (TlbRow i high low) b = refl
 settings-of (Ram at word) b = refl
 settings-of (DeviceLoad d offset) b = refl
 settings-of (DeviceStore offset word) b = refl

@@ -62,7 +62,7 @@ module _ (regs : List ℕ) (t : List Row) (ram : List ℕ) (registers : Register
   saves (HiLo hi lo) i = nothing
   saves (Control r word) i = nothing
   saves (Entry row) i = nothing
-  saves (TlbRow k new) i = table-row k i
+  saves (TlbRow k high low) i = table-row k i
   saves (Ram at word) i =
       let old : loadAt 4 ram at < 2 ^ 32 = load-small 4 ram at (i .1) bytes in
       record {

@@ -42,7 +42,7 @@ note-long : (roms : Roms) (w : World) → length (w .board .line .printers) ≡ 
 unfolding noteOf
 note-long roms w eight = length-bytes (noteOf roms w) eight
 
-pub in-rows : (room rows : ℕ) {i : ℕ} {row : Row} {e : Effect} → e ≡ TlbRow i row → Within room rows e → i < rows
+pub in-rows : (room rows : ℕ) {i high low : ℕ} {e : Effect} → e ≡ TlbRow i high low → Within room rows e → i < rows
 in-rows room rows is w = rw is at w
 
 -- the parts with the table that the loop then has

@@ -21,6 +21,7 @@ use state::machine::Cpu;
 use state::machine::Machine;
 use state::machine::Settings;
 use step::saved::old_row;
+use tlb::Row;
 use turn::Parts;
 use turn::finish;
 use turn::start;
@@ -165,8 +166,8 @@ fn spin(
                     break Stop::Exception;
                 }
             }
-            Effect::TlbRow(i, row) => {
-                let written = tlb::write(rows, i as usize, row);
+            Effect::TlbRow(i, high, low) => {
+                let written = tlb::write(rows, i as usize, Row { high, low });
                 rows = written;
                 limit = next_look(rows, steps, budget);
             }

@@ -14,6 +14,7 @@ use Rattle.cp0.specs.declared.registers.Cp0.{Cp0}
 use Rattle.isa.specs.declared.instr.ControlRegister.the-variants.{Cause}
 use Rattle.memory.specs.Memory.{storedAt}
 use Rattle.tlb.specs.declared.Row.{Row}
+use Rattle.state.specs.Layout.{rowOf}
 use Rattle.state.specs.Slot.{inSlot, returnOf, slotAfter}
 use Rattle.state.specs.declared.machine.Core.{Core}
 use Rattle.state.specs.declared.machine.Cpu.{Cpu}
@@ -96,7 +97,7 @@ effectOf sizes (Register d word) w = withRegs (set (w .cpu .regs) d word) w
 effectOf sizes (HiLo hi lo) w = withCore (withHiLo hi lo (w .cpu .core)) w
 effectOf sizes (Control r word) w = withCore (withCp0 (withRegister r word (w .cpu .core .cp0)) (w .cpu .core)) w
 effectOf sizes (Entry row) w = withCore (withCp0 (withEntry (row .high) (row .low) (w .cpu .core .cp0)) (w .cpu .core)) w
-effectOf sizes (TlbRow i row) w = withTlb (set (w .cpu .tlb) i row) w
+effectOf sizes (TlbRow i high low) w = withTlb (set (w .cpu .tlb) i (rowOf high low)) w
 effectOf sizes (Ram at word) w = withRam (storedAt 4 (w .ram) at word) w
 effectOf sizes (DeviceLoad d offset) w = withRegs (set (w .cpu .regs) d (deviceWord sizes (w .board) offset)) w
 effectOf sizes (DeviceStore offset word) w = deviceStored (busWriteOf offset word) w

@@ -18,6 +18,7 @@ use Rattle.tlb.specs.Entry.{noRow, readAt}
 use Rattle.tlb.specs.declared.Row.{Row}
 use Rattle.record.specs.declared.Saved.{Saved}
 use Rattle.record.specs.declared.Saved.the-variants as saved
+use Rattle.state.specs.Layout.{rowOf}
 use Rattle.state.specs.Slot.{inSlot, returnOf}
 use Rattle.state.specs.declared.machine.Core.{Core}
 use Rattle.state.specs.declared.machine.Board.{Board}
@@ -48,7 +49,7 @@ regsAfter b printers (Register d word) regs = set regs d word
 regsAfter b printers (HiLo hi lo) regs = regs
 regsAfter b printers (Control r word) regs = regs
 regsAfter b printers (Entry row) regs = regs
-regsAfter b printers (TlbRow i row) regs = regs
+regsAfter b printers (TlbRow i high low) regs = regs
 regsAfter b printers (Ram at word) regs = regs
 regsAfter b printers (DeviceLoad d offset) regs = set regs d (busWordOf b printers offset)
 regsAfter b printers (DeviceStore offset word) regs = regs
@@ -60,7 +61,7 @@ ramAfter (Register d word) ram = ram
 ramAfter (HiLo hi lo) ram = ram
 ramAfter (Control r word) ram = ram
 ramAfter (Entry row) ram = ram
-ramAfter (TlbRow i row) ram = ram
+ramAfter (TlbRow i high low) ram = ram
 ramAfter (Ram at word) ram = storedAt 4 ram at word
 ramAfter (DeviceLoad d offset) ram = ram
 ramAfter (DeviceStore offset word) ram = ram
@@ -73,7 +74,7 @@ coreAfter pending (Register d word) c = c
 coreAfter pending (HiLo hi lo) c = withHiLo hi lo c
 coreAfter pending (Control r word) c = withCp0 (withRegister r word (c .cp0)) c
 coreAfter pending (Entry row) c = withCp0 (withEntry (row .high) (row .low) (c .cp0)) c
-coreAfter pending (TlbRow i row) c = c
+coreAfter pending (TlbRow i high low) c = c
 coreAfter pending (Ram at word) c = c
 coreAfter pending (DeviceLoad d offset) c = c
 coreAfter pending (DeviceStore offset word) c = withCp0 (linesStored (busWriteOf offset word) pending (c .cp0)) c
@@ -85,7 +86,7 @@ rowsAfter (Register d word) t = t
 rowsAfter (HiLo hi lo) t = t
 rowsAfter (Control r word) t = t
 rowsAfter (Entry row) t = t
-rowsAfter (TlbRow i row) t = set t i row
+rowsAfter (TlbRow i high low) t = set t i (rowOf high low)
 rowsAfter (Ram at word) t = t
 rowsAfter (DeviceLoad d offset) t = t
 rowsAfter (DeviceStore offset word) t = t
@@ -98,7 +99,7 @@ oldRow (Register d word) t = noRow
 oldRow (HiLo hi lo) t = noRow
 oldRow (Control r word) t = noRow
 oldRow (Entry row) t = noRow
-oldRow (TlbRow i row) t = readAt t i
+oldRow (TlbRow i high low) t = readAt t i
 oldRow (Ram at word) t = noRow
 oldRow (DeviceLoad d offset) t = noRow
 oldRow (DeviceStore offset word) t = noRow
@@ -111,7 +112,7 @@ savedWith (Register d word) regs old ram = saved.Register d (getD regs d 0)
 savedWith (HiLo hi lo) regs old ram = saved.Nothing
 savedWith (Control r word) regs old ram = saved.Nothing
 savedWith (Entry row) regs old ram = saved.Nothing
-savedWith (TlbRow i row) regs old ram = saved.TlbRow i old
+savedWith (TlbRow i high low) regs old ram = saved.TlbRow i old
 savedWith (Ram at word) regs old ram = saved.RamWord at (loadAt 4 ram at)
 savedWith (DeviceLoad d offset) regs old ram = saved.Register d (getD regs d 0)
 savedWith (DeviceStore offset word) regs old ram = saved.Nothing
@@ -123,7 +124,7 @@ boardAfter (Register d word) b = b
 boardAfter (HiLo hi lo) b = b
 boardAfter (Control r word) b = b
 boardAfter (Entry row) b = b
-boardAfter (TlbRow i row) b = b
+boardAfter (TlbRow i high low) b = b
 boardAfter (Ram at word) b = b
 boardAfter (DeviceLoad d offset) b = b
 boardAfter (DeviceStore offset word) b = boardStored (busWriteOf offset word) b

@@ -72,7 +72,7 @@ pub fn write_back(effect: Effect, bus: Bus, words: &[u32; 40], regs: &mut [u32; 
         Effect::HiLo(_, _) => {}
         Effect::Control(_, _) => {}
         Effect::Entry(_) => {}
-        Effect::TlbRow(_, _) => {}
+        Effect::TlbRow(_, _, _) => {}
         Effect::DeviceStore(_, _) => {}
         Effect::Raise(_) => {}
     }
@@ -120,7 +120,7 @@ pub fn move_core(core: &mut [u32; 14], effect: Effect, pending: u32)
             put_core(with_cp0(c, with_register(c.cp0, register, word)), core)
         }
         Effect::Entry(row) => put_core(with_cp0(c, with_entry(c.cp0, row.high, row.low)), core),
-        Effect::TlbRow(_, _) => {}
+        Effect::TlbRow(_, _, _) => {}
         Effect::Ram(_, _) => {}
         Effect::DeviceLoad(_, _) => {}
         Effect::DeviceStore(offset, word) => put_core(stored_lines(c, offset, word, pending), core),
@@ -256,7 +256,7 @@ fn held_after(effect: Effect, held: Held, settings: Settings, words: &mut [u32; 
         Effect::HiLo(_, _) => held,
         Effect::Control(_, _) => held,
         Effect::Entry(_) => held,
-        Effect::TlbRow(_, _) => held,
+        Effect::TlbRow(_, _, _) => held,
         Effect::Ram(_, _) => held,
         Effect::DeviceLoad(_, _) => held,
         Effect::Raise(_) => held,

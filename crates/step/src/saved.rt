@@ -13,7 +13,7 @@ pub fn old_row(effect: Effect, rows: [Row; 16]) -> Row
     ensures { λ r. ⌜ r ≡ oldRow effect rows ⌝ }
 {
     match effect {
-        Effect::TlbRow(i, _) => tlb::read(rows, i as usize),
+        Effect::TlbRow(i, _, _) => tlb::read(rows, i as usize),
         Effect::Nothing => Row { high: 0, low: 0 },
         Effect::Register(_, _) => Row { high: 0, low: 0 },
         Effect::HiLo(_, _) => Row { high: 0, low: 0 },
@@ -43,7 +43,7 @@ pub fn saved(effect: Effect, regs: &[u32; 32], old: Row, ram: &[u8]) -> Saved
     match effect {
         Effect::Register(d, _) => Saved::Register(d, register_at(regs, d)),
         Effect::DeviceLoad(d, _) => Saved::Register(d, register_at(regs, d)),
-        Effect::TlbRow(i, _) => Saved::TlbRow(i, old),
+        Effect::TlbRow(i, _, _) => Saved::TlbRow(i, old),
         Effect::Ram(at, _) => Saved::RamWord(at, memory::load_word(ram, at as usize)),
         Effect::Nothing => Saved::Nothing,
         Effect::HiLo(_, _) => Saved::Nothing,
