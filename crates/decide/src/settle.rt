@@ -1,6 +1,7 @@
 // What an intent then changes: the PC pair and the effect.
 ghost use mathlib.Core.Path.{_≡_};
 ghost use Rattle.intend.specs.Operand.{regOf};
+ghost use Rattle.state.specs.Layout.{HoldsZero};
 ghost use Rattle.decide.specs.Lent.{lentOf};
 ghost use Rattle.decide.specs.Settle.{
   onOf,
@@ -134,6 +135,7 @@ fn loaded(
     ram: &[u8],
 ) -> Decision
     requires { ⌜ Held (lentOf (now execution) (now bootstrap) (now ram)) reached ⌝ }
+    requires { ⌜ HoldsZero (now regs) ⌝ }
     ensures { λ r. ⌜ r ≡ loadedOf core (lentOf (now (execution .entry)) (now (bootstrap .entry)) (now (ram .entry))) op d (regOf (now (regs .entry)) d) va reached ⌝ }
 {
     match reached {
@@ -193,6 +195,7 @@ pub fn settle(
     ram: &[u8],
 ) -> Decision
     requires { ⌜ Asks (lentOf (now execution) (now bootstrap) (now ram)) 16 intent ⌝ }
+    requires { ⌜ HoldsZero (now regs) ⌝ }
     ensures { λ r. ⌜ r ≡ settleOf core (now (regs .entry)) (lentOf (now (execution .entry)) (now (bootstrap .entry)) (now (ram .entry))) intent ⌝ }
 {
     match intent {

@@ -1,5 +1,6 @@
 // Document 01, "One step", parts 3 and 4: interrupt entry, or fetch and execute.
 ghost use mathlib.Core.Path.{_≡_};
+ghost use Rattle.state.specs.Layout.{HoldsZero};
 ghost use Rattle.decide.specs.Lent.{lentOf, Whole};
 ghost use Rattle.decide.specs.Decide.{executeOf, decideOf};
 use crate::effect::Decision;
@@ -26,6 +27,7 @@ fn execute(
     ram: &[u8],
 ) -> Decision
     requires { ⌜ Whole (lentOf (now execution) (now bootstrap) (now ram)) ⌝ }
+    requires { ⌜ HoldsZero (now regs) ⌝ }
     ensures { λ r. ⌜ r ≡ executeOf core (now (regs .entry)) rows (lentOf (now (execution .entry)) (now (bootstrap .entry)) (now (ram .entry))) word ⌝ }
 {
     let intent = intend(
@@ -48,6 +50,7 @@ pub fn decide(
     ram: &[u8],
 ) -> Decision
     requires { ⌜ Whole (lentOf (now execution) (now bootstrap) (now ram)) ⌝ }
+    requires { ⌜ HoldsZero (now regs) ⌝ }
     ensures { λ r. ⌜ r ≡ decideOf core (now (regs .entry)) rows (lentOf (now (execution .entry)) (now (bootstrap .entry)) (now (ram .entry))) ⌝ }
 {
     if interrupts(core.cp0.status, core.cp0.cause) {

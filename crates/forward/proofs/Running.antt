@@ -9,6 +9,7 @@ use lib.ListN.{length}
 use Rattle.word.proofs.Cond.{both}
 use Rattle.state.specs.Layout.{bytesOf, machineOf}
 use Rattle.state.specs.declared.machine.Machine.{Machine}
+use Rattle.state.proofs.RoundTrip.{decoded-zero}
 use Rattle.rules.specs.Rules.{headerKeeps, journalKeeps, stateKeeps, machineKeeps, keepsRules}
 use Rattle.turn.specs.Buffers.{Buffers, besideOf, buffersOf}
 use Rattle.run.specs.Run.{Fits, RunIs, reasonOf}
@@ -42,6 +43,7 @@ fits-run b passed keeps is =
       whole = lent-whole (l .execution) (l .bootstrap) (l .ram) (a .ram-fits) (a .roms-fit);
       short = leb-true paper 65536 (p .0);
       ready = rw is (record { few = leb-true journal 16777216 (f .0); sound = ring-sound (l .journal) (m .journal) (j .1) });
+      zero = rw is (decoded-zero (b .image));
     }
 
 -- ---- the image and the budget

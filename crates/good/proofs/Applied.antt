@@ -23,6 +23,7 @@ use Rattle.decide.specs.declared.effect.Effect.the-variants.{Nothing, Register,
 use Rattle.decide.specs.declared.effect.Decision.{Decision}
 use Rattle.proper.specs.Proper.{RowGood, Leaves, Proper}
 use Rattle.step.specs.World.{World}
+use Rattle.step.proofs.Zero.{zero-set}
 use Rattle.step.specs.Apply.{boardStored, deviceWord, paired, effectOf, appliedOf}
 use Rattle.good.specs.Good.{Good}
 use Rattle.good.proofs.Belows.{below-left, below-right, below-set}
@@ -32,11 +33,10 @@ use Rattle.good.proofs.Sound.{Registers, Table, Sound, good-sound, soun
 
 -- ---- one register, one row, one word of RAM
 
--- register 0 is none of those written
 register-set : {l : List ℕ} (d word : ℕ) → Registers l → 0 < d → word < 2 ^ 32 → Registers (set l d word)
 register-set {l} d word r above h = record {
   long = length-set l d word ∙ r .long;
-  zero = getD-set-other l d 0 word 0 (λ e. omega arith) ∙ r .zero;
+  zero = zero-set l d word above (r .zero);
   small = below-set l d word (r .small) h;
 }
 

@@ -3,10 +3,10 @@ use Prim.Native.Nat.{ℕ, _^_, _<_}
 use mathlib.Core.Path.{_≡_}
 use mathlib.Core.List.{List, [], _∷_, _++_}
 use native.Mathlib.Omega.{arith}
-use lib.ListN.{getD, drop}
+use lib.ListN.{drop}
 use Rattle.word.specs.Lists.{flat, Below}
 use Rattle.word.proofs.Lists.{below-nil, below-cons, below-append}
-use Rattle.state.specs.Layout.{coreWords, slotWords, keptWords, rowWords, clockWords, settingsWords, printerWords, journalWords, wordsOf, Sized, WellTyped}
+use Rattle.state.specs.Layout.{coreWords, slotWords, keptWords, rowWords, clockWords, settingsWords, printerWords, journalWords, wordsOf, Sized, HoldsZero, WellTyped}
 use Rattle.state.specs.declared.machine.Machine.{Machine}
 use Rattle.good.proofs.Belows.{below-left, below-right}
 
@@ -21,7 +21,7 @@ pub record Words (m : Machine) : Type 0 where
   pub journal : Below (2 ^ 32) (journalWords (m .journal))
 
 -- register 0, which the image leaves out, is 0
-with-zero : (l : List ℕ) → getD l 0 0 ≡ 0 → Below (2 ^ 32) (drop 1 l) → Below (2 ^ 32) l
+with-zero : (l : List ℕ) → HoldsZero l → Below (2 ^ 32) (drop 1 l) → Below (2 ^ 32) l
 with-zero [] z h = below-nil (2 ^ 32)
 with-zero (x ∷ l) z h = below-cons l (omega arith) h
 
@@ -77,7 +77,7 @@ module _ (m : Machine) where
         journal = below-left (journalWords (m .journal)) (slotWords (m .cpu .core)) h₇;
       }
 
-  pub well-typed : Sized m → getD (m .cpu .regs) 0 0 ≡ 0 → Words m → WellTyped m
+  pub well-typed : Sized m → HoldsZero (m .cpu .regs) → Words m → WellTyped m
   unfolding wordsOf
   well-typed s z w = record {
     sized = s;

@@ -11,7 +11,7 @@ use Rattle.tlb.specs.declared.Row.{Row}
 use Rattle.printer.specs.Rules.{Keeps}
 use Rattle.printer.specs.Tick.{noPrinter}
 use Rattle.printer.specs.declared.Line.{Line}
-use Rattle.state.specs.Layout.{keptWords, rowWords, clockWords, settingsWords, printerWords, journalWords, WellTyped}
+use Rattle.state.specs.Layout.{keptWords, rowWords, clockWords, settingsWords, printerWords, journalWords, HoldsZero, WellTyped}
 use Rattle.state.specs.declared.machine.Core.{Core}
 use Rattle.state.specs.declared.machine.Board.{Board}
 use Rattle.state.specs.declared.machine.Journal.{Journal}
@@ -25,7 +25,7 @@ use Rattle.good.proofs.Parts.{words, well-typed}
 
 pub record Registers (l : List ℕ) : Type 0 where
   pub long : length l ≡ 32
-  pub zero : getD l 0 0 ≡ 0
+  pub zero : HoldsZero l
   pub small : Below (2 ^ 32) l
 
 pub record CoreSound (c : Core) (pending : ℕ) : Type 0 where

@@ -1,5 +1,6 @@
 // Loads and stores: the virtual address, and where it lands. Each tries the plain access first, on its own, so that what is common goes straight through.
 ghost use mathlib.Core.Path.{_≡_};
+ghost use Rattle.state.specs.Layout.{HoldsZero};
 ghost use Rattle.intend.specs.Operand.{regOf};
 ghost use Rattle.intend.specs.Access.{loadWidth, storeWidth, reachedOf, loadOf, storeOf};
 use crate::intent::Intent;
@@ -70,6 +71,7 @@ pub fn load(
     rows: [Row; 16],
     sizes: Sizes,
 ) -> Intent
+    requires { ⌜ HoldsZero (now regs) ⌝ }
     ensures { λ r. ⌜ r ≡ loadOf op rt (regOf (now (regs .entry)) base) offset cp0 rows sizes ⌝ }
 {
     let va = addiu(reg(regs, base), offset);
@@ -91,6 +93,7 @@ pub fn store(
     rows: [Row; 16],
     sizes: Sizes,
 ) -> Intent
+    requires { ⌜ HoldsZero (now regs) ⌝ }
     ensures { λ r. ⌜ r ≡ storeOf op (regOf (now (regs .entry)) rt) (regOf (now (regs .entry)) base) offset cp0 rows sizes ⌝ }
 {
     let va = addiu(reg(regs, base), offset);

@@ -1,6 +1,7 @@
 // Branches and jumps: the link, written taken or not, and the next PC.
 ghost use mathlib.Core.Path.{_≡_};
 ghost use Rattle.alu.specs.Jumps.{linkOf};
+ghost use Rattle.state.specs.Layout.{HoldsZero};
 ghost use Rattle.intend.specs.Operand.{regOf};
 ghost use Rattle.intend.specs.Branch.{compareOf, signOf, linkRegister, takenOf, jumpsOf, comparesOf, signsOf};
 use crate::intent::Intent;
@@ -69,6 +70,7 @@ pub fn jumps(op: JumpOp, core: Core, target: u32) -> Intent
 
 // JALR: the link goes to rd.
 pub fn jump_link(d: u32, s: u32, core: Core, regs: &[u32; 32]) -> Intent
+    requires { ⌜ HoldsZero (now regs) ⌝ }
     ensures { λ r. ⌜ r ≡ Intent.Branch d (linkOf (core .pc)) (regOf (now (regs .entry)) s) ⌝ }
 {
     let to = reg(regs, s);
@@ -76,6 +78,7 @@ pub fn jump_link(d: u32, s: u32, core: Core, regs: &[u32; 32]) -> Intent
 }
 
 pub fn compares(op: CompareOp, s: u32, t: u32, offset: u32, core: Core, regs: &[u32; 32]) -> Intent
+    requires { ⌜ HoldsZero (now regs) ⌝ }
     ensures { λ r. ⌜ r ≡ comparesOf op core (regOf (now (regs .entry)) s) (regOf (now (regs .entry)) t) offset ⌝ }
 {
     let test = compare(op, reg(regs, s), reg(regs, t));
@@ -83,6 +86,7 @@ pub fn compares(op: CompareOp, s: u32, t: u32, offset: u32, core: Core, regs: &[
 }
 
 pub fn signs(op: SignOp, s: u32, offset: u32, core: Core, regs: &[u32; 32]) -> Intent
+    requires { ⌜ HoldsZero (now regs) ⌝ }
     ensures { λ r. ⌜ r ≡ signsOf op core (regOf (now (regs .entry)) s) offset ⌝ }
 {
     let next = taken(core, sign(op, reg(regs, s)), offset);

@@ -1,5 +1,6 @@
 // The words of COP0. Whether CP0 may be used is tested before anything else.
 ghost use mathlib.Core.Path.{_≡_};
+ghost use Rattle.state.specs.Layout.{HoldsZero};
 ghost use Rattle.intend.specs.Control.{writtenWord, entryOf, poppedWord, functionOf, controlOf};
 use crate::codes::CPU;
 use crate::codes::RI;
@@ -39,6 +40,7 @@ fn popped(cp0: Cp0) -> u32
 }
 
 fn function(control: Control, cp0: Cp0, regs: &[u32; 32], rows: [Row; 16]) -> Intent
+    requires { ⌜ HoldsZero (now regs) ⌝ }
     ensures { λ r. ⌜ r ≡ functionOf cp0 (now (regs .entry)) rows control ⌝ }
 {
     match control {
@@ -54,6 +56,7 @@ fn function(control: Control, cp0: Cp0, regs: &[u32; 32], rows: [Row; 16]) -> In
 }
 
 pub fn control(control: Control, cp0: Cp0, regs: &[u32; 32], rows: [Row; 16]) -> Intent
+    requires { ⌜ HoldsZero (now regs) ⌝ }
     ensures { λ r. ⌜ r ≡ controlOf cp0 (now (regs .entry)) rows control ⌝ }
 {
     if usable(cp0.status) {

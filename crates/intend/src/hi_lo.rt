@@ -1,5 +1,6 @@
 // MULT, MULTU, DIV and DIVU, and the moves from and to HI and LO.
 ghost use mathlib.Core.Path.{_≡_};
+ghost use Rattle.state.specs.Layout.{HoldsZero};
 ghost use Rattle.intend.specs.Operand.{regOf};
 ghost use Rattle.intend.specs.HiLo.{keptOf, productOf, halfOf, withHalf, hiLoOf};
 use crate::intent::Intent;
@@ -56,6 +57,7 @@ fn both(words: HiLo) -> Intent
 }
 
 pub fn product(op: ProductOp, s: u32, t: u32, core: Core, regs: &[u32; 32]) -> Intent
+    requires { ⌜ HoldsZero (now regs) ⌝ }
     ensures { λ r. ⌜ r ≡ hiLoOf (productOf op (regOf (now (regs .entry)) s) (regOf (now (regs .entry)) t) (keptOf core)) ⌝ }
 {
     both(multiplied(op, reg(regs, s), reg(regs, t), kept(core)))
@@ -68,6 +70,7 @@ pub fn moved_from(which: instr::HiLo, d: u32, core: Core) -> Intent
 }
 
 pub fn moved_to(which: instr::HiLo, s: u32, core: Core, regs: &[u32; 32]) -> Intent
+    requires { ⌜ HoldsZero (now regs) ⌝ }
     ensures { λ r. ⌜ r ≡ hiLoOf (withHalf which (regOf (now (regs .entry)) s) (keptOf core)) ⌝ }
 {
     both(with_half(which, reg(regs, s), kept(core)))

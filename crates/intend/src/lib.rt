@@ -1,5 +1,6 @@
 // What an instruction asks for: sources are read first, so every answer is made of what they held before it.
 ghost use mathlib.Core.Path.{_≡_};
+ghost use Rattle.state.specs.Layout.{HoldsZero};
 ghost use Rattle.intend.specs.Intend.{intendOf};
 use crate::access::load;
 use crate::access::store;
@@ -26,6 +27,7 @@ pub mod operand; // registers as they are read, and the next PC
 mod operate; // what is computed from registers and immediates
 
 pub fn intend(instr: Instr, core: Core, regs: &[u32; 32], rows: [Row; 16], sizes: Sizes) -> Intent
+    requires { ⌜ HoldsZero (now regs) ⌝ }
     ensures { λ r. ⌜ r ≡ intendOf core (now (regs .entry)) rows sizes instr ⌝ }
 {
     let cp0 = core.cp0;

@@ -1,5 +1,6 @@
 // What is computed from registers and immediates, and written to a register.
 ghost use mathlib.Core.Path.{_≡_};
+ghost use Rattle.state.specs.Layout.{HoldsZero};
 ghost use Rattle.intend.specs.Operand.{regOf};
 ghost use Rattle.intend.specs.Operate.{shiftOf, registerOf, immediateOf, summedOf};
 use crate::codes::OV;
@@ -64,24 +65,28 @@ fn summed(sum: Added, d: u32) -> Intent
 }
 
 pub fn shift(op: ShiftOp, d: u32, t: u32, by: u32, regs: &[u32; 32]) -> Intent
+    requires { ⌜ HoldsZero (now regs) ⌝ }
     ensures { λ r. ⌜ r ≡ Intent.Write d (shiftOf op (regOf (now (regs .entry)) t) by) ⌝ }
 {
     Intent::Write(d, shifted(op, reg(regs, t), by))
 }
 
 pub fn shift_by(op: ShiftOp, d: u32, t: u32, s: u32, regs: &[u32; 32]) -> Intent
+    requires { ⌜ HoldsZero (now regs) ⌝ }
     ensures { λ r. ⌜ r ≡ Intent.Write d (shiftOf op (regOf (now (regs .entry)) t) (regOf (now (regs .entry)) s)) ⌝ }
 {
     Intent::Write(d, shifted(op, reg(regs, t), reg(regs, s)))
 }
 
 pub fn register(op: RegisterOp, d: u32, s: u32, t: u32, regs: &[u32; 32]) -> Intent
+    requires { ⌜ HoldsZero (now regs) ⌝ }
     ensures { λ r. ⌜ r ≡ summedOf (registerOf op (regOf (now (regs .entry)) s) (regOf (now (regs .entry)) t)) d ⌝ }
 {
     summed(by_register(op, reg(regs, s), reg(regs, t)), d)
 }
 
 pub fn immediate(op: ImmediateOp, t: u32, s: u32, imm: u32, regs: &[u32; 32]) -> Intent
+    requires { ⌜ HoldsZero (now regs) ⌝ }
     ensures { λ r. ⌜ r ≡ summedOf (immediateOf op (regOf (now (regs .entry)) s) imm) t ⌝ }
 {
     summed(by_immediate(op, reg(regs, s), imm), t)

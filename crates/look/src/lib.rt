@@ -8,6 +8,7 @@ ghost use Rattle.decide.specs.Lent.{lentOf, Whole};
 ghost use Rattle.meets.specs.Meets.{meetsTwoOf};
 ghost use Rattle.held.specs.Core.{coreIn};
 ghost use Rattle.step.specs.Parts.{aheadOf};
+ghost use Rattle.state.specs.Layout.{HoldsZero};
 ghost use Rattle.look.specs.Look.{lookOf};
 use held::Held;
 use held::core::core_in;
@@ -49,6 +50,7 @@ fn held_back(
     ram: &[u8],
 ) -> bool
     requires { ⌜ Whole (lentOf (now execution) (now bootstrap) (now ram)) ⌝ }
+    requires { ⌜ HoldsZero (now regs) ⌝ }
     ensures { λ r. ⌜
         r
         ≡ meetsTwoOf (aheadOf (coreIn (now (core .entry))) held (now (words .entry))) (now (regs .entry)) rows
@@ -74,6 +76,7 @@ pub fn looked(
 ) -> Look
     requires { ⌜ steps ≤ budget ⌝ }
     requires { ⌜ Whole (lentOf (now execution) (now bootstrap) (now ram)) ⌝ }
+    requires { ⌜ HoldsZero (now regs) ⌝ }
     ensures { λ r. ⌜
         r
         ≡ lookOf steps limit budget

@@ -3,6 +3,7 @@ ghost use mathlib.Core.Path.{_≡_};
 ghost use Rattle.isa.specs.Opcode.{decodeOf};
 ghost use Rattle.intend.specs.Access.{twiceOf};
 ghost use Rattle.decide.specs.Lent.{lentOf, Whole};
+ghost use Rattle.state.specs.Layout.{HoldsZero};
 ghost use Rattle.meets.specs.Meets.{accessMeetsTwo, fetchedMeetsTwo, meetsTwoOf};
 use alu::sum::addiu;
 use cp0::interrupt::interrupts;
@@ -29,6 +30,7 @@ fn met(kind: Kind, width: Width, va: u32, cp0: Cp0, rows: [Row; 16]) -> bool
 }
 
 fn by_instr(instr: Instr, cp0: Cp0, regs: &[u32; 32], rows: [Row; 16]) -> bool
+    requires { ⌜ HoldsZero (now regs) ⌝ }
     ensures { λ r. ⌜ r ≡ accessMeetsTwo cp0 (now (regs .entry)) rows instr ⌝ }
 {
     match instr {
@@ -69,6 +71,7 @@ fn by_instr(instr: Instr, cp0: Cp0, regs: &[u32; 32], rows: [Row; 16]) -> bool
 
 // Below 0x8000_0000 no word is a load or a store.
 fn by_word(word: u32, cp0: Cp0, regs: &[u32; 32], rows: [Row; 16]) -> bool
+    requires { ⌜ HoldsZero (now regs) ⌝ }
     ensures { λ r. ⌜ r ≡ accessMeetsTwo cp0 (now (regs .entry)) rows (decodeOf word) ⌝ }
 {
     if word < 0x8000_0000 {
@@ -78,6 +81,7 @@ fn by_word(word: u32, cp0: Cp0, regs: &[u32; 32], rows: [Row; 16]) -> bool
 }
 
 fn by_fetched(fetched: Fetched, cp0: Cp0, regs: &[u32; 32], rows: [Row; 16]) -> bool
+    requires { ⌜ HoldsZero (now regs) ⌝ }
     ensures { λ r. ⌜ r ≡ fetchedMeetsTwo cp0 (now (regs .entry)) rows fetched ⌝ }
 {
     match fetched {
@@ -96,6 +100,7 @@ pub fn meets_two(
     ram: &[u8],
 ) -> bool
     requires { ⌜ Whole (lentOf (now execution) (now bootstrap) (now ram)) ⌝ }
+    requires { ⌜ HoldsZero (now regs) ⌝ }
     ensures { λ r. ⌜ r ≡ meetsTwoOf core (now (regs .entry)) rows (lentOf (now (execution .entry)) (now (bootstrap .entry)) (now (ram .entry))) ⌝ }
 {
     let cp0 = core.cp0;

@@ -9,6 +9,7 @@ use Rattle.ring.specs.Run.{Why, Config, Ran, ended, spent, excepted, halted}
 use Rattle.ring.specs.Run as ring
 use Rattle.record.specs.Layout.{recordBytes}
 use Rattle.journal.specs.Journal.{slotsOf, ringOf, Ready}
+use Rattle.state.specs.Layout.{HoldsZero}
 use Rattle.state.specs.declared.machine.Machine.{Machine}
 use Rattle.decide.specs.Lent.{Whole}
 use Rattle.step.specs.World.{World, Roms, worldIn}
@@ -50,6 +51,7 @@ pub record Fits (b : Beside) (m : Machine) : Type 0 where
   pub whole : Whole (lentFrom b)
   pub short : length (b .paper) ≤ 65536
   pub ready : Ready (b .journal) (m .journal)
+  pub zero : HoldsZero (m .cpu .regs)
 
 -- what a run gives back and leaves behind the references is the run: b′ is what is lent as the run leaves it
 abbrev pub RunIs : ℕ → Bool → Machine → Beside → Outcome → (b′ : Beside) → Type 0

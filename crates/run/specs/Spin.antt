@@ -10,7 +10,7 @@ use Rattle.ring.specs.Run as ring
 use Rattle.journal.specs.Journal.{slotsOf, ringOf}
 use Rattle.journal.specs.Journal as slots
 use Rattle.printer.specs.Tick.{anyBusy}
-use Rattle.state.specs.Layout.{keptWords, printerWords}
+use Rattle.state.specs.Layout.{keptWords, printerWords, HoldsZero}
 use Rattle.state.specs.declared.machine.Machine.{Machine}
 use Rattle.state.specs.declared.machine.Settings.{Settings}
 use Rattle.decide.specs.Lent.{Whole}
@@ -54,6 +54,7 @@ pub record Ready (p : Parts) (b : Beside) : Type 0 where
   pub whole : Whole (lentFrom b)
   pub short : length (b .paper) ≤ 65536
   pub ready : slots.Ready (b .journal) (p .mark)
+  pub zero : HoldsZero (p .regs)
 
 -- b′ is what is lent as the loop leaves it
 abbrev pub SpinIs : ℕ → Bool → Settings → Parts → Beside → Spun → (b′ : Beside) → Type 0

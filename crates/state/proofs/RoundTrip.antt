@@ -14,7 +14,7 @@ use Rattle.tlb.specs.declared.Row.{Row}
 use Rattle.tlb.specs.Entry.{noRow}
 use Rattle.printer.specs.declared.Printer.{Printer}
 use Rattle.printer.specs.Tick.{noPrinter}
-use Rattle.state.specs.Layout.{wordsOf, header, bytesOf, bodyWord, machineAt, machineOf, Sized, WellTyped}
+use Rattle.state.specs.Layout.{wordsOf, header, bytesOf, bodyWord, machineAt, machineOf, Sized, HoldsZero, WellTyped}
 use Rattle.state.proofs.Stored.{length-words}
 
 -- the layout's words are the words in their order
@@ -54,20 +54,20 @@ unfolding wordsOf machineAt
 read-spelt m reg row printer = refl
 
 -- register 0 is 0, and the others are what they are
-registers : (l : List ℕ) → length l ≡ 32 → getD l 0 0 ≡ 0 → 0 ∷ tabulate 31 (λ (i : ℕ). getD l (suc i) 0) ≡ l
+registers : (l : List ℕ) → length l ≡ 32 → HoldsZero l → 0 ∷ tabulate 31 (λ (i : ℕ). getD l (suc i) 0) ≡ l
 registers [] e z = absurd (omega arith)
 registers (x ∷ l) e z =
     let long : length l ≡ 31 = omega arith in
     rw (z, rw long at (tabulate-getD l 0))
 
 -- any machine of the right sizes is such a one
-spells : (m : Machine) → Sized m → getD (m .cpu .regs) 0 0 ≡ 0 → (row : Row) (printer : Printer) →
+spells : (m : Machine) → Sized m → HoldsZero (m .cpu .regs) → (row : Row) (printer : Printer) →
     spelt m (λ (i : ℕ). getD (m .cpu .regs) (suc i) 0) (λ (i : ℕ). getD (m .cpu .tlb) i row) (λ (i : ℕ). getD (m .board .line .printers) i printer) ≡ m
 spells m s z row printer =
     with-own-arrays m _ _ _ (registers (m .cpu .regs) (s .regs) z) (rw (s .tlb) at (tabulate-getD (m .cpu .tlb) row))
     (rw (s .printers) at (tabulate-getD (m .board .line .printers) printer))
 
-read-whole : (m : Machine) → Sized m → getD (m .cpu .regs) 0 0 ≡ 0 → machineAt (λ (k : ℕ). getD (wordsOf m) k 0) ≡ m
+read-whole : (m : Machine) → Sized m → HoldsZero (m .cpu .regs) → machineAt (λ (k : ℕ). getD (wordsOf m) k 0) ≡ m
 read-whole m s z =
     subst (λ (n : Machine). machineAt (λ (k : ℕ). getD (wordsOf n) k 0) ≡ n) (spells m s z noRow noPrinter)
     (read-spelt m (λ (i : ℕ). getD (m .cpu .regs) (suc i) 0) (λ (i : ℕ). getD (m .cpu .tlb) i noRow) (λ (i : ℕ). getD (m .board .line .printers) i noPrinter))
@@ -97,6 +97,11 @@ encode-decode b l h small =
     ap (λ (ws : List ℕ). header ++ flat wordBytes ws) (in-order (bodyWord body))
     ∙ ap (λ (l : List ℕ). header ++ l) written ∙ ap (λ (l : List ℕ). l ++ body) (sym h) ∙ take-append-drop 5 b
 
+-- An image leaves register 0 out, and what is decoded has it at 0.
+pub decoded-zero : (b : List ℕ) → HoldsZero (machineOf b .cpu .regs)
+unfolding machineOf machineAt
+decoded-zero b = refl
+
 -- What is decoded is well typed, so that it can be encoded again.
 pub decoded-typed : (b : List ℕ) → length b ≡ 509 → Below 256 b → WellTyped (machineOf b)
 unfolding machineOf machineAt
@@ -106,4 +111,4 @@ decoded-typed b l small =
     let bytes : Below 256 body = part-below 5 b small in
     let words : Below (2 ^ 32) (tabulate 126 f) =
     λ i h. rw (getD-tabulate 126 f i 0 h) (word-small body (4 * i) bytes) in
-    record { sized = record { regs = refl; tlb = refl; printers = refl }; zero = refl; small = subst (Below (2 ^ 32)) (sym (in-order f)) words }
+    record { sized = record { regs = refl; tlb = refl; printers = refl }; zero = decoded-zero b; small = subst (Below (2 ^ 32)) (sym (in-order f)) words }

@@ -212,8 +212,12 @@ pub record Sized (m : Machine) : Type 0 where
   pub tlb : length (m .cpu .tlb) ≡ tableSize
   pub printers : length (m .board .line .printers) ≡ devices
 
--- and register 0 is 0, and every word is a word
+-- register 0 is 0
+abbrev pub HoldsZero : List ℕ → Type 0
+HoldsZero regs = getD regs 0 0 ≡ 0
+
+-- and so it is, and every word is a word
 pub record WellTyped (m : Machine) : Type 0 where
   pub sized : Sized m
-  pub zero : getD (m .cpu .regs) 0 0 ≡ 0
+  pub zero : HoldsZero (m .cpu .regs)
   pub small : Below (2 ^ 32) (wordsOf m)

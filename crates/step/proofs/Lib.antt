@@ -2,4 +2,5 @@ pub mod Effects
 pub mod Ticks
 pub mod Applied
 pub mod Held
+pub mod Zero
 pub mod Devices

@@ -13,6 +13,7 @@ use Rattle.journal.specs.Journal.{slotsOf}
 use Rattle.journal.specs.Journal as slots
 use Rattle.tlb.specs.declared.Row.{Row}
 use Rattle.tlb.proofs.Laws.{written-row, length-written}
+use Rattle.state.specs.Layout.{HoldsZero}
 use Rattle.decide.specs.Lent.{Whole}
 use Rattle.decide.specs.Range.{Within}
 use Rattle.decide.specs.declared.effect.Effect.{Effect}
@@ -23,6 +24,7 @@ use Rattle.held.proofs.Board.{length-printers}
 use Rattle.step.specs.World.{Roms, romsOf}
 use Rattle.step.specs.Parts.{aheadOf, rowsAfter}
 use Rattle.step.specs.Step.{haltsOf, enters}
+use Rattle.step.proofs.Zero.{applied-zero}
 use Rattle.meets.specs.Meets.{meetsTwoOf}
 use Rattle.meets.proofs.Quiet.{meets-one}
 use Rattle.turn.specs.Buffers.{Beside, besideOf, romsIn}
@@ -48,6 +50,7 @@ Inv-loop settings execution bootstrap ram₀ paper₀ journal₀ budget stop cor
     × slots.Ready journal mark
     × (length rows ≡ 16)
     × (length core ≡ 14)
+    × HoldsZero regs
     × Reached (forward (romsOf execution bootstrap)) (slotsOf journal₀) budget stop
     (configOf (romsOf execution bootstrap) settings (record { core = core₀; held = held₀; regs = regs₀; rows = rows₀; words = words₀; mark = mark₀ })
     (besideOf execution bootstrap ram₀ paper₀ journal₀))
@@ -180,6 +183,7 @@ module _ (c : After) where
         × slots.Ready (besideThen .journal) (partsThen .mark)
         × (length rows ≡ 16)
         × (length (partsThen .core) ≡ 14)
+        × HoldsZero (partsThen .regs)
         × Reached (forward roms) (slotsOf (a .args .journal .now)) (a .args .budget) (a .args .stop) from (h .loop .steps + 1) there
 
     again : (a .args .stop && enters e) ≡ false → Onward
@@ -193,14 +197,15 @@ module _ (c : After) where
           turns.ready (slotsOf (a .args .journal .now)) (a .args .budget) (a .args .stop) turn-is journal-long (i .5),
           long,
           turn-is .fourteen,
-          turns.goes _ _ (a .args .stop) turn-is same told rows left-rows from (h .loop .steps) (left-of c) (i .8) (once-at c) q,
+          applied-zero _ 16 (finished c .finish .ensures .0) (within-at (decided c)) (i .8),
+          turns.goes _ _ (a .args .stop) turn-is same told rows left-rows from (h .loop .steps) (left-of c) (i .9) (once-at c) q,
         )
 
     onward : enters e ≡ false → Onward
     onward quiet = again (rw quiet (and-false (a .args .stop)))
 
     ends : (a .args .stop && enters e) ≡ true → ring.run (forward roms) (slotsOf (a .args .journal .now)) (a .args .budget) (a .args .stop) from ≡ ended there (h .loop .steps + 1) excepted
-    ends q = turns.ends _ _ (a .args .stop) turn-is same told rows left-rows from (h .loop .steps) (left-of c) (h .loop .inv .8) (once-at c) q
+    ends q = turns.ends _ _ (a .args .stop) turn-is same told rows left-rows from (h .loop .steps) (left-of c) (h .loop .inv .9) (once-at c) q
 
 -- an effect that sets no row
 stays : (c : After) {e : Effect} (told : decided c .decide .result .effect ≡ e) (same : rowsAfter e (head c .loop .rows) ≡ head c .loop .rows) → enters e ≡ false →
@@ -213,13 +218,13 @@ next-look-requires c κs = search needs
 loop-holds : tie.Need-loop-holds Inv-loop μ-loop
 loop-holds c =
     let start = c .before .before .before .before .before .before .before .before .before .before .before .before in
-    (next-look _ 0 _ _ (omega arith) (c .next-look .ensures), refl, refl, refl, start .pre .told, start .pre .ready, start .pre .table, start .pre .fourteen, reached-start _ _ _ _ _)
+    (next-look _ 0 _ _ (omega arith) (c .next-look .ensures), refl, refl, refl, start .pre .told, start .pre .ready, start .pre .table, start .pre .fourteen, start .pre .zero, reached-start _ _ _ _ _)
 
 looked-requires : tie.Need-looked-requires Inv-loop μ-loop
 looked-requires c κs =
     let h = c .before .before .before .before in
     let at = h .loop .inv .0 in
-    (omega (arith, at .below, at .most), whole-at h)
+    (omega (arith, at .below, at .most), (whole-at h, h .loop .inv .8))
 
 start-requires : tie.Need-start-requires Inv-loop μ-loop
 start-requires c κs =
@@ -235,7 +240,9 @@ core-in-requires : tie.Need-core-in-requires Inv-loop μ-loop
 core-in-requires c κs = search needs
 
 decide-requires : tie.Need-decide-requires Inv-loop μ-loop
-decide-requires c κs = whole-at (headOf (c .before .before .before .before .before .before .before .before .before .before .before .before .before .before))
+decide-requires c κs =
+    let h = headOf (c .before .before .before .before .before .before .before .before .before .before .before .before .before .before) in
+    (whole-at h, h .loop .inv .8)
 
 old-row-requires : tie.Need-old-row-requires Inv-loop μ-loop
 old-row-requires c κs = search needs
@@ -376,7 +383,7 @@ returns c =
     let h = headOf asked in
     sym
     (look-ends (h .loop .rows) (h .loop .steps) (h .loop .limit) (entry h .args .budget) (asks h) (asked .looked .result) (asked .looked .ensures) (h .loop .inv .0) _ _ _ _ _
-    (h .loop .inv .8) (sym (halts-ahead (partsAt h) (entry h .args .settings) (besideAt h))) (c .if1 .taken))
+    (h .loop .inv .9) (sym (halts-ahead (partsAt h) (entry h .args .settings) (besideAt h))) (c .if1 .taken))
 
 same-length-4 : tie.Need-same-length-4 Inv-loop μ-loop
 same-length-4 c = let m = c .before .before .before in finished m .finish .kept .1 .1 .1 .1 .1 .1 .1 .1 .1 .0 ∙ head m .loop .inv .1

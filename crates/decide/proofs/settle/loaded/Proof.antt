@@ -7,7 +7,7 @@ enum-known-reached : tie.Need-enum-known-reached
 enum-known-reached c = search needs
 
 word-in-requires : tie.Need-word-in-requires
-word-in-requires c κs = rw (c .before .reached .given .1) at (c .before .before .before .before .before .before .pre)
+word-in-requires c κs = rw (c .before .reached .given .1) at (c .before .before .before .before .before .before .pre .0)
 
 reg-requires : tie.Need-reg-requires
 reg-requires c κs = search needs

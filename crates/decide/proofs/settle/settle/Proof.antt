@@ -29,13 +29,15 @@ enum-known-intent-4 : tie.Need-enum-known-intent-4
 enum-known-intent-4 c = search needs
 
 loaded-requires : tie.Need-loaded-requires
-loaded-requires c κs = (rw (c .before .intent4 .given .1) at (c .before .before .before .before .before .before .pre)) .1
+loaded-requires c κs =
+    let start = c .before .before .before .before .before .before in
+    ((rw (c .before .intent4 .given .1) at (start .pre .0)) .1, start .pre .1)
 
 enum-known-intent-5 : tie.Need-enum-known-intent-5
 enum-known-intent-5 c = search needs
 
 stored-requires : tie.Need-stored-requires
-stored-requires c κs = rw (c .before .intent5 .given .1) at (c .before .before .before .before .before .before .pre)
+stored-requires c κs = rw (c .before .intent5 .given .1) at (c .before .before .before .before .before .before .pre .0)
 
 enum-known-intent-6 : tie.Need-enum-known-intent-6
 enum-known-intent-6 c = search needs

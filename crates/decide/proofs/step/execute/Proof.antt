@@ -23,8 +23,8 @@ settle-requires c κs =
     let start = c .before .before .before .before .before .before in
     let sixteen : length (start .args .rows) ≡ 16 = search needs in
     let rows : 0 < length (start .args .rows) = omega (arith, sixteen) in
-    rw sixteen at
-    (intent-asks _ _ (start .pre) rows _ _ (start .args .word) (c .before .before .decode .ensures) (c .before .sizes .ensures) (c .intend .ensures))
+    let asks = intent-asks _ _ (start .pre .0) rows _ _ (start .args .word) (c .before .before .decode .ensures) (c .before .sizes .ensures) (c .intend .ensures) in
+    (rw sixteen at asks, start .pre .1)
 
 returns : tie.Need-returns
 unfolding executeOf
