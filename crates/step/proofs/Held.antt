@@ -1,13 +1,14 @@
 -- The moves of a step on the parts that a run holds, over plain values. While no printer works there is nothing to tick.
-use Prim.Native.Nat.{ℕ}
+use Prim.Native.Nat.{ℕ, _<_}
 use mathlib.Core.Path.{_≡_, refl, sym, ap, _∙_}
-use mathlib.Core.Bool.{Bool, true, false}
+use mathlib.Core.Bool.{Bool, true, false, _||_}
 use mathlib.Core.List.{List, []}
-use lib.ListN.{length}
+use lib.ListN.{length, getD}
 use Rattle.clock.specs.declared.Beat.{Beat}
 use Rattle.clock.specs.Tick as clock
-use Rattle.printer.specs.Tick.{printing, anyBusy}
+use Rattle.printer.specs.Tick.{printing, noPrinter, isBusy, anyBusy}
 use Rattle.printer.specs.declared.Line.{Line}
+use Rattle.printer.specs.declared.Printer.{Printer}
 use Rattle.printer.proofs.Ticks.{idle-tick}
 use Rattle.bus.specs.declared.store.Store.{Store}
 use Rattle.bus.specs.declared.store.Store.the-variants.{Nothing, Timer, Command, Data}
@@ -18,11 +19,13 @@ use Rattle.state.specs.declared.machine.Core.{Core}
 use Rattle.state.specs.declared.machine.Board.{Board}
 use Rattle.state.specs.declared.machine.Settings.{Settings}
 use Rattle.decide.specs.declared.effect.Decision.{Decision}
-use Rattle.held.specs.Board.{printersIn, boardOf, Told}
+use Rattle.held.specs.Board.{printerIn, printersIn, boardOf, Told}
 use Rattle.held.specs.Core.{coreIn}
-use Rattle.held.specs.Line.{TicksIs, CommandIs, DataIs}
+use Rattle.held.specs.Line.{lineIn, TicksIs, CommandIs, DataIs}
 use Rattle.held.specs.declared.Held.{Held}
+use Rattle.held.proofs.Board.{length-printers}
 use Rattle.held.proofs.CoreWords.{core-held}
+use Rattle.held.proofs.Stored.{printer-at}
 use Rattle.step.specs.World.{worldOf}
 use Rattle.step.specs.Apply.{busOf, withPc}
 use Rattle.step.specs.Parts.{coreTicked, regsAfter, ramAfter, coreAfter, rowsAfter}
@@ -30,6 +33,7 @@ use Rattle.step.specs.Held.{PrintedIs, TickIs, StoredIs, HeldIs, ApplyIs
 use Rattle.step.specs.declared.tick.AfterPrinters.{AfterPrinters}
 use Rattle.step.proofs.Ticks.{tick-is}
 use Rattle.step.proofs.Applied.{apply-is}
+use Rattle.step.proofs.Busy.{command-busy, data-busy}
 
 -- a core that was put back is the core then
 pub put-back : {words : List ℕ} {c : Core} → words ≡ keptWords c → coreIn words ≡ c
@@ -76,15 +80,27 @@ module _ (settings : Settings) (h : Held) (words : List ℕ) where
       StoredIs settings (Timer timer) h words r words
   stores-timer timer told is = rw is (record { board-is = refl; told = record { busy-is = told .busy-is; forty = told .forty } })
 
-  pub stores-command : (n word : ℕ) {map : ℕ} {busy : Bool} {words′ : List ℕ} →
-      CommandIs (settings .installed) (settings .delay) n word words (h .pending) map words′ → busy ≡ anyBusy (printersIn words′) →
-      StoredIs settings (Command n word) h words (record { clock = h .clock; pending = map; busy = busy }) words′
-  stores-command n word done told = record { board-is = ap with-line (done .line-is); told = record { busy-is = told; forty = done .forty } }
+  module _ (n word : ℕ) (few : n < 8) (told : Told h words) where
+    pub stores-command : {map : ℕ} {words′ : List ℕ} → CommandIs (settings .installed) (settings .delay) n word words (h .pending) map words′ →
+        StoredIs settings (Command n word) h words (record { clock = h .clock; pending = map; busy = h .busy || isBusy (printerIn words′ n) }) words′
+    stores-command {words′ = words′} done =
+        let are = ap (λ (l : Line). l .printers) (done .line-is) in
+        let busy-is =
+        ap (λ (was : Bool). was || isBusy (printerIn words′ n)) (told .busy-is)
+        ∙ ap (λ (p : Printer). anyBusy (printersIn words) || isBusy p) (sym (printer-at words′ n few))
+        ∙ ap (λ (ps : List Printer). anyBusy (printersIn words) || isBusy (getD ps n noPrinter)) are
+        ∙ sym (command-busy (settings .installed) n word (lineIn words (h .pending)) few (length-printers words) (settings .delay))
+        ∙ ap anyBusy (sym are) in
+        record { board-is = ap with-line (done .line-is); told = record { busy-is = busy-is; forty = done .forty } }
 
-  pub stores-data : (n word : ℕ) {busy : Bool} {words′ : List ℕ} →
-      DataIs (settings .installed) n word words words′ → busy ≡ anyBusy (printersIn words′) →
-      StoredIs settings (Data n word) h words (record { clock = h .clock; pending = h .pending; busy = busy }) words′
-  stores-data n word done told = record { board-is = ap with-line (done .line-is (h .pending)); told = record { busy-is = told; forty = done .forty } }
+    pub stores-data : {words′ : List ℕ} → DataIs (settings .installed) n word words words′ →
+        StoredIs settings (Data n word) h words (record { clock = h .clock; pending = h .pending; busy = h .busy }) words′
+    stores-data done =
+        let busy-is =
+        told .busy-is
+        ∙ sym (data-busy (settings .installed) n word (lineIn words (h .pending)) few (length-printers words))
+        ∙ ap (λ (l : Line). anyBusy (l .printers)) (sym (done .line-is (h .pending))) in
+        record { board-is = ap with-line (done .line-is (h .pending)); told = record { busy-is = busy-is; forty = done .forty } }
 
 -- ---- the effect
 

@@ -1,6 +1,7 @@
 pub mod Effects
 pub mod Ticks
 pub mod Applied
+pub mod Busy
 pub mod Held
 pub mod Zero
 pub mod Devices

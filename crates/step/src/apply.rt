@@ -31,11 +31,11 @@ use decide::effect::Effect;
 use held::Held;
 use held::core::core_in;
 use held::core::put_core;
-use held::line::busy_in;
 use held::line::command;
 use held::line::data;
 use held::printer_in;
 use isa::instr::ControlRegister;
+use printer::BUSY;
 use state::machine::Core;
 use state::machine::Settings;
 use state::slot::in_slot;
@@ -197,6 +197,7 @@ fn timed(held: Held, timer: u32) -> Held
     }
 }
 
+// Of the eight only the printer that took the command is looked at: one that takes it was not busy, and no other changes (proofs/Busy).
 fn commanded(held: Held, settings: Settings, words: &mut [u32; 40], n: usize, word: u32) -> Held
     requires { ⌜ n < 8 ⌝ }
     requires { ⌜ Told held (now words) ⌝ }
@@ -211,13 +212,15 @@ fn commanded(held: Held, settings: Settings, words: &mut [u32; 40], n: usize, wo
         n,
         word,
     );
+    let works = words[5 * n] == BUSY;
     Held {
         clock,
         pending,
-        busy: busy_in(words),
+        busy: held.busy | works,
     }
 }
 
+// DATA0 leaves every STATUS.
 fn written(held: Held, settings: Settings, words: &mut [u32; 40], n: usize, word: u32) -> Held
     requires { ⌜ n < 8 ⌝ }
     requires { ⌜ Told held (now words) ⌝ }
@@ -228,7 +231,7 @@ fn written(held: Held, settings: Settings, words: &mut [u32; 40], n: usize, word
     Held {
         clock,
         pending: held.pending,
-        busy: busy_in(words),
+        busy: held.busy,
     }
 }
 
