@@ -5,10 +5,11 @@
  *     rt staticlib lavushmir
  *     cc -std=c99 -I include examples/panel.c target/staticlib/liblavushmir.a
  *
- * The archive keeps no memory of its own. A machine is six buffers of yours,
+ * The archive keeps no memory of its own. A machine is seven buffers of yours,
  * lent anew to each call: the state image (registers, clocks, printers), the
- * two ROMs, RAM, the printers' paper, and the journal, in which each step
- * leaves a record so that it can be taken back.
+ * two ROMs, RAM, the printers' paper, the journal, in which each step leaves a
+ * record so that it can be taken back, and the index, which says for each frame
+ * of RAM which step changed it last. struct lavushmir_buffers holds them all.
  */
 #include "lavushmir.h"
 
@@ -17,23 +18,30 @@
 #include <string.h>
 
 /* The sizes are yours to choose, within what document 01 allows. */
-enum { ROM_BYTES = 64, RAM_BYTES = 4096, PAPER_BYTES = 8 * 32, RECORDS = 200, PIECE = 50 };
+enum { ROM_BYTES = 64, FRAMES = 1, PAPER_BYTES = 8 * 32, RECORDS = 200, PIECE = 50 };
 
 struct machine {
     uint8_t image[LAVUSHMIR_IMAGE_BYTES];
     uint8_t execution_rom[ROM_BYTES], bootstrap_rom[ROM_BYTES];
-    uint8_t ram[RAM_BYTES], paper[PAPER_BYTES], journal[RECORDS * 256];
+    uint8_t ram[FRAMES * LAVUSHMIR_FRAME_BYTES], paper[PAPER_BYTES];
+    uint8_t journal[RECORDS * LAVUSHMIR_RECORD_BYTES];
+    uint8_t index[FRAMES * LAVUSHMIR_INDEX_ENTRY_BYTES];
 };
 
-/* The image is a length word, a version byte, and then these words. */
-enum { WORDS_FROM = 5, REGISTER_1 = 0, PC = 33, STATUS = 40, CAUSE = 41, CLOCK_LOW = 76,
-       PAPER_COUNT = 85, ON_HAND = 122 };
-
-/* It is big-endian on every machine, so that it can be stored and moved. */
-static uint32_t image_word(const struct machine *m, unsigned number)
+/* The same as the calls are lent it: each buffer and its length. */
+static struct lavushmir_buffers lent(struct machine *m)
 {
-    const uint8_t *at = m->image + WORDS_FROM + 4 * number;
-    return (uint32_t)at[0] << 24 | (uint32_t)at[1] << 16 | (uint32_t)at[2] << 8 | at[3];
+    struct lavushmir_buffers b = {
+        m->image, sizeof m->image, m->execution_rom, sizeof m->execution_rom,
+        m->bootstrap_rom, sizeof m->bootstrap_rom, m->ram, sizeof m->ram, m->paper,
+        sizeof m->paper, m->journal, sizeof m->journal, m->index, sizeof m->index};
+    return b;
+}
+
+/* The image is big-endian on every machine, so that it can be stored and moved. */
+static unsigned image_word(const struct machine *m, unsigned place)
+{
+    return (unsigned)lavushmir_image_word(m->image, place);
 }
 
 /* The machine starts in its bootstrap ROM. This program prints A, B, C .. */
@@ -66,36 +74,41 @@ static void lay_program(struct machine *m)
 static void must_be_done(uint64_t answer, const char *call)
 {
     if (lavushmir_number(answer) != LAVUSHMIR_DONE) {
-        printf("%s is refused with number %u\n", call, lavushmir_number(answer));
+        printf("%s is refused: %s\n", call, lavushmir_text(lavushmir_number(answer)));
         exit(1);
     }
 }
 
 /* Time scale 1, a printer delay of 20 steps, and printer 0 installed. */
-static void reset(struct machine *m)
+static void reset(const struct lavushmir_buffers *b)
 {
-    must_be_done(lavushmir_reset(m->image, sizeof m->image, 1, 20, 0x01), "reset");
+    must_be_done(lavushmir_buffers_reset(b, 1, 20, 0x01), "reset");
 }
 
 /* A piece at a time, so that a panel stays awake; a call runs at most 1,000,000. */
-static void run(struct machine *m, uint64_t steps)
+static void run(const struct lavushmir_buffers *b, uint64_t steps)
 {
     while (steps > 0) {
-        uint64_t piece = steps < PIECE ? steps : PIECE;
-        uint64_t answer = lavushmir_run(m->image, sizeof m->image,
-                                        m->execution_rom, sizeof m->execution_rom,
-                                        m->bootstrap_rom, sizeof m->bootstrap_rom,
-                                        m->ram, sizeof m->ram, m->paper, sizeof m->paper,
-                                        m->journal, sizeof m->journal, piece, 0);
+        uint64_t answer = lavushmir_buffers_run(b, steps < PIECE ? steps : PIECE, 0);
         must_be_done(answer, "run");
         steps -= lavushmir_steps(answer);
     }
 }
 
-static uint64_t take_back(struct machine *m, uint64_t steps)
+/* Which step wrote RAM's first word, and when its frame was changed last. */
+static void show_last_write(const struct lavushmir_buffers *b)
 {
-    return lavushmir_take_back(m->image, sizeof m->image, m->ram, sizeof m->ram, m->paper,
-                               sizeof m->paper, m->journal, sizeof m->journal, steps);
+    uint8_t told[LAVUSHMIR_LAST_WRITE_BYTES];
+    uint64_t answer = lavushmir_buffers_last_write(b, LAVUSHMIR_RAM_ADDRESS, told);
+    must_be_done(answer, "last write");
+    if (lavushmir_steps(answer) == 0)
+        printf("RAM's first word: no step on hand changed it\n\n");
+    else
+        printf("RAM's first word: changed %u steps ago, at clock %u, from %08x to %08x\n"
+               "its frame: last changed at clock %u\n\n",
+               (unsigned)lavushmir_steps(answer), (unsigned)lavushmir_last_write_clock(told),
+               (unsigned)lavushmir_last_write_old(told), (unsigned)lavushmir_last_write_new(told),
+               (unsigned)lavushmir_index_clock(b->index, 0));
 }
 
 static void show(const struct machine *m, const char *title)
@@ -103,42 +116,47 @@ static void show(const struct machine *m, const char *title)
     unsigned i;
     printf("== %s\n", title);
     printf("PC %08x   Status %08x   Cause %08x   clock %u   on hand %u\n",
-           (unsigned)image_word(m, PC), (unsigned)image_word(m, STATUS),
-           (unsigned)image_word(m, CAUSE), (unsigned)image_word(m, CLOCK_LOW),
-           (unsigned)image_word(m, ON_HAND));
+           image_word(m, LAVUSHMIR_WORD_PC), image_word(m, LAVUSHMIR_WORD_STATUS),
+           image_word(m, LAVUSHMIR_WORD_CAUSE), (unsigned)lavushmir_clock(m->image),
+           image_word(m, LAVUSHMIR_WORD_ON_HAND));
     for (i = 0; i < 32; i++) { /* register 0 is always 0 and not in the image */
         if (i % 8 == 0)
             printf("$%-3u", i);
-        printf(" %08x", (unsigned)(i == 0 ? 0 : image_word(m, REGISTER_1 + i - 1)));
+        printf(" %08x", i == 0 ? 0 : image_word(m, LAVUSHMIR_WORD_REGISTER_1 + i - 1));
         if (i % 8 == 7)
             printf("\n");
     }
     printf("RAM's first byte %02x   ", m->ram[0]);
-    /* Printer 0 has the first eighth of the paper; its count says how far. */
-    printf("paper \"%.*s\"\n\n", (int)image_word(m, PAPER_COUNT), (const char *)m->paper);
+    /* Printer 0 has the first eighth of the paper; its count, the last of its words,
+       says how far. */
+    printf("paper \"%.*s\"\n\n", (int)image_word(m, LAVUSHMIR_WORD_PRINTER + 4),
+           (const char *)m->paper);
 }
 
 int main(void)
 {
     static struct machine m, earlier; /* static: all 0, and off the stack */
+    const struct lavushmir_buffers b = lent(&m);
 
     lay_program(&m);
-    reset(&m);
+    reset(&b);
     show(&m, "after the reset");
-    run(&m, 180);
+    run(&b, 180);
     show(&m, "after 180 steps");
+    show_last_write(&b);
 
     earlier = m;
-    must_be_done(take_back(&m, 100), "take-back");
+    must_be_done(lavushmir_buffers_take_back(&b, 100), "take-back");
     show(&m, "100 steps taken back: registers, clock, RAM and paper of step 80");
+    show_last_write(&b);
 
-    run(&m, 100);
+    run(&b, 100);
     show(&m, "the same 100 steps again");
     printf("All bytes are as they were after 180 steps: %s\n",
            memcmp(&m, &earlier, sizeof m) == 0 ? "yes" : "no");
 
     /* A refusal writes nothing: the machine stays as it is. */
-    if (lavushmir_number(take_back(&m, 181)) == LAVUSHMIR_NOT_ON_HAND)
+    if (lavushmir_number(lavushmir_buffers_take_back(&b, 181)) == LAVUSHMIR_NOT_ON_HAND)
         printf("Taking back 181 steps is refused: only 180 are on hand\n");
     return 0;
 }

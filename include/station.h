@@ -2,12 +2,13 @@
  * Station: the session of a technician with one machine, callable from C.
  *
  * For C99 and C++. Link with libstation.a (x86-64). The archive also has
- * lavushmir_convert of lavushmir.h, for a station of the version before.
+ * lavushmir_convert of lavushmir.h, for a station of the first version.
  *
- * A station is a machine with its six buffers: state image, execution ROM,
- * bootstrap ROM, RAM, paper, journal. What a person types is understood, and
- * what a person reads is laid out, behind these two calls; the C side moves bytes
- * between files, terminal and buffers, and never interprets them. It is one loop:
+ * A station is a machine with its seven buffers: state image, execution ROM,
+ * bootstrap ROM, RAM, paper, journal, index. What a person types is understood,
+ * and what a person reads is laid out, behind the first two calls below; the C
+ * side moves bytes between files, terminal and buffers, and never interprets
+ * them. It is one loop:
  *
  *     event = STATION_EVENT_START;
  *     for (;;) {
@@ -86,10 +87,11 @@ enum {
     STATION_WORD_SECOND_TO = 6,
     /* For STATION_WANTS_MAKE only: the lengths of the buffers to lend. They are
        lengths that a machine allows: RAM 4,096 to 16,777,216 bytes, paper 0 to
-       65,536, journal 0 to 16,777,216. */
+       65,536, journal 0 to 16,777,216, index 16 to 65,536. */
     STATION_WORD_RAM_BYTES = 7,
     STATION_WORD_PAPER_BYTES = 8,
-    STATION_WORD_JOURNAL_BYTES = 9
+    STATION_WORD_JOURNAL_BYTES = 9,
+    STATION_WORD_INDEX_BYTES = 10
 };
 
 /* Events: what has happened. `in` is empty where nothing else is said. */
@@ -121,8 +123,8 @@ enum {
     STATION_EVENT_FILE_MISSING = 6,
 
     /* After STATION_WANTS_MAKE: both ROM files are read, and are lent from this
-       turn on; so are RAM, paper and journal of the lengths asked for, all 0, and
-       an image of STATION_IMAGE_BYTES. */
+       turn on; so are RAM, paper, journal and index of the lengths asked for, all
+       0, and an image of STATION_IMAGE_BYTES. */
     STATION_EVENT_MADE = 7,
 
     /* After STATION_WANTS_SAVE: done; or not, and the C side has said why. */
@@ -155,7 +157,7 @@ enum {
        _FILE_MISSING. */
     STATION_WANTS_FILE = 4,
     /* The execution ROM named by the first name and the bootstrap ROM named by
-       the second are read, and buffers of the three lengths are made, all 0:
+       the second are read, and buffers of the four lengths are made, all 0:
        STATION_EVENT_MADE or _FILE_MISSING. */
     STATION_WANTS_MAKE = 5,
     /* The station named by the first name is loaded into a second set of buffers,
@@ -213,11 +215,12 @@ static inline uint32_t station_bytes(uint64_t answer)
  * in         what came with the event: a line, or the bytes of a file.
  * out        lent for writing: what is to be shown.
  * image      the state image: read and written. Before there is a station, and
- * execution  so before STATION_EVENT_MADE, these six may be of any length, 0 too.
+ * execution  so before STATION_EVENT_MADE, these seven may be of any length, 0 too.
  * bootstrap  The two ROMs are only read.
  * ram        read and written: the bytes from physical address 0x20000000 on.
  * paper      read and written: what the printers print on, an eighth for each.
  * journal    read and written: the records of the newest steps.
+ * index      read and written: the last step on hand that changed each frame of RAM.
  *
  * Answers what is wanted next, with the bytes written to out.
  */
@@ -229,11 +232,13 @@ uint64_t station_panel_turn(uint64_t *session, uint64_t event,
                             const uint8_t *bootstrap, size_t bootstrap_bytes,
                             uint8_t *ram, size_t ram_bytes,
                             uint8_t *paper, size_t paper_bytes,
-                            uint8_t *journal, size_t journal_bytes);
+                            uint8_t *journal, size_t journal_bytes,
+                            uint8_t *index, size_t index_bytes);
 
 /*
  * The turn after STATION_WANTS_OTHER: shows in what two stations differ. Only the
- * session and out are written. Answers as station_panel_turn does.
+ * session and out are written. Answers as station_panel_turn does. The index is
+ * not lent: it follows from the others.
  *
  * image, ram, paper, journal    of this station.
  * other_image and so on         of the station to compare with.
@@ -248,6 +253,23 @@ uint64_t station_compare_turn(
     const uint8_t *other_ram, size_t other_ram_bytes,
     const uint8_t *other_paper, size_t other_paper_bytes,
     const uint8_t *other_journal, size_t other_journal_bytes);
+
+/*
+ * The index of a station that was saved without one. The steps on hand are taken
+ * back and run again: that writes the index, and the records with what they keep of
+ * it, and leaves image, RAM and paper as they were where the journal is the true one
+ * of that state. `index` is 0 everywhere before the call.
+ *
+ * Answers as lavushmir_take_back of lavushmir.h does where it refuses; else as
+ * lavushmir_run does. After a refusal all buffers may have been written.
+ */
+uint64_t station_lay_index(uint8_t *image, size_t image_bytes,
+                           const uint8_t *execution, size_t execution_bytes,
+                           const uint8_t *bootstrap, size_t bootstrap_bytes,
+                           uint8_t *ram, size_t ram_bytes,
+                           uint8_t *paper, size_t paper_bytes,
+                           uint8_t *journal, size_t journal_bytes,
+                           uint8_t *index, size_t index_bytes);
 
 #ifdef __cplusplus
 }

@@ -1,12 +1,13 @@
-/* convert.h - a station that was saved by the version before this one. Nothing
- * here looks into an image: its length tells the version, and lavushmir_convert
- * (lavushmir.h, in libstation.a) judges the rest. */
+/* convert.h - a station that was saved by an earlier version of this program.
+ * Nothing here looks into a file: lengths tell the version, and the calls of
+ * lavushmir.h and station.h judge the rest. */
 #ifndef CONVERT_H
 #define CONVERT_H
 
 #include "lent.h"
 
-/* Whether a set that was read is of the version before. */
+/* Whether a set that was read is of an earlier version: it has no index, or the
+ * shorter image of the first version. */
 int convert_is_old(const lent_set *set);
 
 /* The same; where it is, says how the station at `path` is converted. */

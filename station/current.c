@@ -20,7 +20,7 @@ static size_t current_line(char out[FS_LINE], unsigned long gen, const char *sum
 int current_read(sf_station *s, unsigned long *gen, current_text text)
 {
     folder d = {s->fd, 0};
-    sf_file f = {"current", (unsigned char *)text, 0, CURRENT_MAX};
+    sf_file f = {"current", (unsigned char *)text, 0, CURRENT_MAX, 0};
     size_t i;
     if (fs_read_file(s, d, &f) != SF_OK)
         return SF_TROUBLE;
@@ -47,7 +47,7 @@ int current_commit(sf_station *s, unsigned long gen, const char *sums)
 {
     char line[FS_LINE];
     folder d = {s->fd, 0};
-    sf_file f = {"current.new", (unsigned char *)line, current_line(line, gen, sums), FS_LINE};
+    sf_file f = {"current.new", (unsigned char *)line, current_line(line, gen, sums), FS_LINE, 0};
     if (io_unlink(s->fd, f.name) != 0)
         return fs_bad(s, 0, f.name, errno, "is in the way of the next save");
     if (fs_write_file(s, d, &f, 0644) != SF_OK)

@@ -82,7 +82,7 @@ int fs_check_set(sf_station *s, const sf_file *f, size_t count)
 
 int fs_read_sums(sf_station *s, folder d, sums_text sums)
 {
-    sf_file f = {"sums", (unsigned char *)sums, 0, SF_SUMS_MAX};
+    sf_file f = {"sums", (unsigned char *)sums, 0, SF_SUMS_MAX, 0};
     if (fs_read_file(s, d, &f) != SF_OK)
         return SF_TROUBLE;
     sums[f.length] = '\0';
@@ -94,6 +94,9 @@ int fs_read_set(sf_station *s, folder d, sf_file *f, size_t count, const char *s
     for (size_t i = 0; i < count; i++) {
         char line[FS_LINE];
         size_t n;
+        f[i].length = 0;
+        if (f[i].late && *sums == '\0')
+            continue;
         if (fs_read_file(s, d, &f[i]) != SF_OK)
             return SF_TROUBLE;
         n = sum_line(line, &f[i]);
@@ -106,10 +109,12 @@ int fs_read_set(sf_station *s, folder d, sf_file *f, size_t count, const char *s
 
 int fs_write_set(sf_station *s, folder d, const sf_file *f, size_t count, sums_text sums)
 {
-    sf_file list = {"sums", (unsigned char *)sums, 0, SF_SUMS_MAX};
+    sf_file list = {"sums", (unsigned char *)sums, 0, SF_SUMS_MAX, 0};
     for (size_t i = 0; i < count; i++) {
         char line[FS_LINE];
         size_t n = sum_line(line, &f[i]);
+        if (f[i].late && f[i].length == 0)
+            continue;
         if (fs_write_file(s, d, &f[i], 0444) != SF_OK)
             return SF_TROUBLE;
         memcpy(sums + list.length, line, n);

@@ -8,19 +8,21 @@
 typedef struct {
     uint8_t execution[ROM_BYTES], bootstrap[ROM_BYTES];
     uint8_t image[STATION_IMAGE_BYTES], ram[RAM_BYTES], paper[PAPER_BYTES], journal[JOURNAL_BYTES];
+    uint8_t index[INDEX_BYTES];
 } arrays;
 
 #define SET(a)                                                                 \
     {                                                                          \
         {                                                                      \
-            {"execution.rom", (a).execution, 0, sizeof (a).execution},         \
-            {"bootstrap.rom", (a).bootstrap, 0, sizeof (a).bootstrap},         \
+            {"execution.rom", (a).execution, 0, sizeof (a).execution, 0},      \
+            {"bootstrap.rom", (a).bootstrap, 0, sizeof (a).bootstrap, 0},      \
         },                                                                     \
         {                                                                      \
-            {"image", (a).image, 0, sizeof (a).image},                         \
-            {"ram", (a).ram, 0, sizeof (a).ram},                               \
-            {"paper", (a).paper, 0, sizeof (a).paper},                         \
-            {"journal", (a).journal, 0, sizeof (a).journal},                   \
+            {"image", (a).image, 0, sizeof (a).image, 0},                      \
+            {"ram", (a).ram, 0, sizeof (a).ram, 0},                            \
+            {"paper", (a).paper, 0, sizeof (a).paper, 0},                      \
+            {"journal", (a).journal, 0, sizeof (a).journal, 0},                \
+            {"index", (a).index, 0, sizeof (a).index, 1},                      \
         },                                                                     \
     }
 

@@ -6,7 +6,7 @@
 #include "station_files.h"
 
 enum { EXECUTION, BOOTSTRAP, ROMS };
-enum { IMAGE, RAM, PAPER, JOURNAL, FILES };
+enum { IMAGE, RAM, PAPER, JOURNAL, INDEX, FILES };
 
 /* The longest of each that a machine allows; of the ROMs and of a file one byte
  * more, so that the session sees that one is too long. */
@@ -15,6 +15,7 @@ enum {
     RAM_BYTES = 16777216,
     PAPER_BYTES = 65536,
     JOURNAL_BYTES = 16777216,
+    INDEX_BYTES = 65536,
     FILE_BYTES = RAM_BYTES + 1
 };
 

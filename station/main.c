@@ -18,7 +18,7 @@
     "usage: lavushmir STATION              commands from standard input\n"     \
     "       lavushmir STATION COMMAND..    one command\n"                      \
     "       lavushmir --restore STATION    back to the save before a bad one\n" \
-    "       lavushmir --convert STATION    from the version before to this one\n" \
+    "       lavushmir --convert STATION    from an earlier version to this one\n" \
     "       lavushmir --help, lavushmir --version\n"
 
 #define HELP                                                                   \
@@ -30,7 +30,7 @@
     "Exit status: 0 done, 1 refused, 2 usage, 3 trouble with a file,\n"        \
     "4 another program holds the station.\n"
 
-#define VERSION "lavushmir 0.7\n"
+#define VERSION "lavushmir 0.8\n"
 
 /* A file must not get the number of a standard stream that is closed: nothing
  * is read from such a stream, and a write to it fails. */

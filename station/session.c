@@ -33,7 +33,8 @@ static uint64_t turn(uint64_t event, size_t file_bytes)
     return shown(station_panel_turn(session, event, in, count, out, sizeof out, f[IMAGE].data, f[IMAGE].length,
                                     lent.roms[EXECUTION].data, lent.roms[EXECUTION].length,
                                     lent.roms[BOOTSTRAP].data, lent.roms[BOOTSTRAP].length, f[RAM].data, f[RAM].length,
-                                    f[PAPER].data, f[PAPER].length, f[JOURNAL].data, f[JOURNAL].length));
+                                    f[PAPER].data, f[PAPER].length, f[JOURNAL].data, f[JOURNAL].length, f[INDEX].data,
+                                    f[INDEX].length));
 }
 
 static uint64_t compare(void)

@@ -33,6 +33,9 @@ typedef struct {
     unsigned char *data; /* `limit` bytes */
     size_t length;       /* bytes in use: read by save, set by load */
     size_t limit;
+    int late; /* 1: saves of earlier versions have no such file. One that `sums` does
+                 not list is read as empty; an empty one is not written. Such files
+                 stand behind all others of a set. */
 } sf_file;
 
 /* An open, locked station. Fields are private to the module, but that fd is -1

@@ -17,8 +17,8 @@ uint64_t wants_save(station *s)
     return r == SF_OK ? STATION_EVENT_SAVED : STATION_EVENT_NOT_SAVED;
 }
 
-/* By way of the other set: where it fails, the state at hand stays. A save of the
- * version before can not be lent to this session. */
+/* By way of the other set: where it fails, the state at hand stays. A save of an
+ * earlier version can not be lent to this session. */
 uint64_t wants_restore(station *s)
 {
     if (s->files.fd < 0) {
@@ -28,7 +28,7 @@ uint64_t wants_restore(station *s)
     if (sf_load_before(&s->files, lent_other.files, FILES) != SF_OK)
         return STATION_EVENT_NOT_RESTORED;
     if (convert_is_old(&lent_other)) {
-        say(s->path, "the save before the present one is of the version before", 0,
+        say(s->path, "the save before the present one is of an earlier version", 0,
             "to have it, leave and type: " PROGRAM " --restore STATION, then --convert STATION");
         return STATION_EVENT_NOT_RESTORED;
     }
@@ -58,7 +58,8 @@ uint64_t wants_make(const uint64_t *session)
     if (lend(&lent.files[IMAGE], STATION_IMAGE_BYTES) == 0 &&
         lend(&lent.files[RAM], session[STATION_WORD_RAM_BYTES]) == 0 &&
         lend(&lent.files[PAPER], session[STATION_WORD_PAPER_BYTES]) == 0 &&
-        lend(&lent.files[JOURNAL], session[STATION_WORD_JOURNAL_BYTES]) == 0)
+        lend(&lent.files[JOURNAL], session[STATION_WORD_JOURNAL_BYTES]) == 0 &&
+        lend(&lent.files[INDEX], session[STATION_WORD_INDEX_BYTES]) == 0)
         return STATION_EVENT_MADE;
     say("the machine", "is larger than this program has room for", 0, "ask for less");
     return STATION_EVENT_FILE_MISSING;

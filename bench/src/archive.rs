@@ -11,6 +11,7 @@ pub fn run(
     ram: &mut [u8],
     paper: &mut [u8],
     journal: &mut [u8],
+    index: &mut [u8],
     budget: u64,
     stop_at_exceptions: u64,
 ) -> Answer {
@@ -21,6 +22,7 @@ pub fn run(
         ram,
         paper,
         journal,
+        index,
         budget,
         stop_at_exceptions,
     );

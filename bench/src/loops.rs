@@ -34,8 +34,8 @@ pub const LOOPS: [Loop; 4] = [
 impl Loop {
     /// The machine before the loop's first step.
     pub fn station(&self, slots: usize) -> Station {
-        let mut image = vec![0; IMAGE_BYTES];
-        reset(&mut image, 1, PRINTER_DELAY, 0xFF);
+        let (mut image, mut index) = (vec![0; IMAGE_BYTES], vec![0; 16 * FRAMES as usize]);
+        reset(&mut image, &mut index, 1, PRINTER_DELAY, 0xFF);
         let mut machine = decode(&image);
         machine.status = Status(0);
         machine.pc = RAM;
@@ -48,7 +48,7 @@ impl Loop {
         for (place, word) in ram.chunks_exact_mut(4).zip(self.code) {
             place.copy_from_slice(&word.to_le_bytes());
         }
-        Station { image, ram, paper: vec![1; 65_536], journal: vec![1; 256 * slots] }
+        Station { image, ram, paper: vec![1; 65_536], journal: vec![1; 256 * slots], index }
     }
 }
 

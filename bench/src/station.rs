@@ -3,8 +3,17 @@
 use reference::Answer;
 
 /// The archive's run and the reference's are both of this type.
-pub type Run =
-    fn(&mut [u8], &[u8], &[u8], &mut [u8], &mut [u8], &mut [u8], budget: u64, stop: u64) -> Answer;
+pub type Run = fn(
+    &mut [u8],
+    &[u8],
+    &[u8],
+    &mut [u8],
+    &mut [u8],
+    &mut [u8],
+    &mut [u8],
+    budget: u64,
+    stop: u64,
+) -> Answer;
 
 #[derive(Clone)]
 pub struct Station {
@@ -12,6 +21,7 @@ pub struct Station {
     pub ram: Vec<u8>,
     pub paper: Vec<u8>,
     pub journal: Vec<u8>,
+    pub index: Vec<u8>,
 }
 
 impl Station {
@@ -24,6 +34,7 @@ impl Station {
             &mut self.ram,
             &mut self.paper,
             &mut self.journal,
+            &mut self.index,
             budget.into(),
             1,
         )
@@ -35,6 +46,7 @@ impl Station {
         self.ram.copy_from_slice(&other.ram);
         self.paper.copy_from_slice(&other.paper);
         self.journal.copy_from_slice(&other.journal);
+        self.index.copy_from_slice(&other.index);
     }
 
     /// The first part that is not equal, or None.
@@ -44,6 +56,7 @@ impl Station {
             ("RAM", &self.ram, &other.ram),
             ("paper", &self.paper, &other.paper),
             ("journal", &self.journal, &other.journal),
+            ("index", &self.index, &other.index),
         ];
         parts.iter().find(|(_, ours, theirs)| ours != theirs).map(|(name, _, _)| *name)
     }

@@ -9,9 +9,27 @@ use reference::{
     decode, encode, reset, run, run_with_records, Answer, Entry, Status, BUDGET_SPENT, IMAGE_BYTES,
 };
 
-/// `run` and `run_with_records` are both of this type.
-type Run =
-    fn(&mut [u8], &[u8], &[u8], &mut [u8], &mut [u8], &mut [u8], budget: u64, stop: u64) -> Answer;
+/// What is lent besides ROMs and paper, which the loop has no need of.
+struct Lent {
+    image: [u8; IMAGE_BYTES],
+    ram: Vec<u8>,
+    journal: Vec<u8>,
+    index: [u8; 16],
+}
+
+const ROM: [u8; 256] = [0; 256];
+
+type Run = fn(&mut Lent) -> Answer;
+
+fn without_records(lent: &mut Lent) -> Answer {
+    let Lent { image, ram, journal, .. } = lent;
+    run(image, &ROM, &ROM, ram, &mut [], journal, BUDGET.into(), 1)
+}
+
+fn with_records(lent: &mut Lent) -> Answer {
+    let Lent { image, ram, journal, index } = lent;
+    run_with_records(image, &ROM, &ROM, ram, &mut [], journal, index, BUDGET.into(), 1)
+}
 
 const RAM: u32 = 0x2000_0000;
 const BUDGET: u32 = 1_000_000;
@@ -33,7 +51,7 @@ const LOOP: [u32; 9] = [
 /// The machine before the loop's first step; with an entry, it is in use.
 fn machine_at_loop(entry: Option<Entry>) -> [u8; IMAGE_BYTES] {
     let mut image = [0; IMAGE_BYTES];
-    reset(&mut image, 1, 1, 0);
+    reset(&mut image, &mut [0; 16], 1, 1, 0);
     let mut machine = decode(&image);
     machine.status = Status(if entry.is_some() { 0x0100_0000 } else { 0 });
     machine.pc = RAM;
@@ -45,16 +63,16 @@ fn machine_at_loop(entry: Option<Entry>) -> [u8; IMAGE_BYTES] {
 }
 
 fn steps_per_second(run: Run, slots: usize, entry: Option<Entry>) -> f64 {
-    let mut image = machine_at_loop(entry);
     let mut ram = vec![0; 4096];
     for (place, word) in ram.chunks_exact_mut(4).zip(LOOP) {
         place.copy_from_slice(&word.to_le_bytes());
     }
     // Not 0, so that no page of the journal is met for the first time below.
-    let (rom, mut journal) = ([0; 256], vec![1; 256 * slots]);
+    let journal = vec![1; 256 * slots];
+    let mut lent = Lent { image: machine_at_loop(entry), ram, journal, index: [0; 16] };
     let start = Instant::now();
     for _ in 0..RUNS {
-        let answer = run(&mut image, &rom, &rom, &mut ram, &mut [], &mut journal, BUDGET.into(), 1);
+        let answer = run(&mut lent);
         assert_eq!((answer.reason, answer.steps), (BUDGET_SPENT, BUDGET));
     }
     f64::from(RUNS * BUDGET) / start.elapsed().as_secs_f64()
@@ -63,9 +81,9 @@ fn steps_per_second(run: Run, slots: usize, entry: Option<Entry>) -> f64 {
 fn main() {
     let mapped = Entry { high: RAM, low: RAM | 0x700 };
     let runs: [(&str, Run, usize); 3] = [
-        ("no records", run, 64),
-        ("records, 16 slots", run_with_records, 16),
-        ("records, 16 MiB", run_with_records, 65_536),
+        ("no records", without_records, 64),
+        ("records, 16 slots", with_records, 16),
+        ("records, 16 MiB", with_records, 65_536),
     ];
     for (name, run, slots) in runs {
         for (translation, entry) in [("off", None), ("on, entry 15", Some(mapped))] {

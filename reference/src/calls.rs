@@ -11,13 +11,19 @@ use crate::printer::READY;
 use crate::record::{NoRecord, Recorder};
 use crate::rules::keeps_rules;
 use crate::sizes::{
-    budget_fits, installed_fits, journal_fits, paper_fits, printer_delay_fits, ram_fits,
-    record_slots, rom_fits, time_scale_fits, RECORD_BYTES,
+    any_index_fits, budget_fits, index_fits, installed_fits, journal_fits, paper_fits,
+    printer_delay_fits, ram_fits, record_slots, rom_fits, time_scale_fits, RECORD_BYTES,
 };
 use crate::status::Status;
 use crate::step::take;
 
-pub fn reset(image: &mut [u8], time_scale: u64, printer_delay: u64, installed: u64) -> Answer {
+pub fn reset(
+    image: &mut [u8],
+    index: &mut [u8],
+    time_scale: u64,
+    printer_delay: u64,
+    installed: u64,
+) -> Answer {
     if image.len() != IMAGE_BYTES {
         return Answer::refused(5);
     }
@@ -26,6 +32,9 @@ pub fn reset(image: &mut [u8], time_scale: u64, printer_delay: u64, installed: u
         && installed_fits(installed))
     {
         return Answer::refused(6);
+    }
+    if !any_index_fits(index.len()) {
+        return Answer::refused(10);
     }
     let mut machine = Machine {
         pc: 0x1FC0_0000,
@@ -44,10 +53,12 @@ pub fn reset(image: &mut [u8], time_scale: u64, printer_delay: u64, installed: u
         }
     }
     encode(&machine, image);
+    index.fill(0);
     Answer::done(NO_REASON, 0)
 }
 
-/// Run without records: on hand and next slot move, the journal's bytes stay.
+/// Run without records: on hand and next slot move, the journal's bytes stay. The
+/// index follows from records, so that none is lent.
 #[allow(clippy::too_many_arguments)]
 pub fn run(
     image: &mut [u8],
@@ -77,6 +88,7 @@ pub fn run_recorded<R: Recorder>(
         image,
         memory,
         journal.len(),
+        None,
         budget,
         stop_at_exceptions,
         |machine, memory, coming| {
@@ -90,18 +102,20 @@ pub fn run_recorded<R: Recorder>(
     )
 }
 
-/// The refusals and the loop of every run. `take_step` also moves the place in
-/// the journal on, and answers whether the step entered an exception.
+/// The refusals and the loop of every run, row 10 where an index is lent.
+/// `take_step` also moves the place in the journal on, and answers whether the
+/// step entered an exception.
 #[inline]
 pub(crate) fn run_steps(
     image: &mut [u8],
     mut memory: Memory,
     journal_len: usize,
+    index_len: Option<usize>,
     budget: u64,
     stop_at_exceptions: u64,
     mut take_step: impl FnMut(&mut Machine, &mut Memory, Result<Instruction, Exception>) -> bool,
 ) -> Answer {
-    let refusal = run_refusal(image, &memory, journal_len, budget);
+    let refusal = run_refusal(image, &memory, journal_len, index_len, budget);
     if refusal != 0 {
         return Answer::refused(refusal);
     }
@@ -128,7 +142,13 @@ pub(crate) fn run_steps(
     Answer::done(reason, steps)
 }
 
-fn run_refusal(image: &[u8], memory: &Memory, journal_len: usize, budget: u64) -> u8 {
+fn run_refusal(
+    image: &[u8],
+    memory: &Memory,
+    journal_len: usize,
+    index_len: Option<usize>,
+    budget: u64,
+) -> u8 {
     if !ram_fits(memory.ram.len()) {
         1
     } else if !(rom_fits(memory.execution_rom.len()) && rom_fits(memory.bootstrap_rom.len())) {
@@ -141,6 +161,8 @@ fn run_refusal(image: &[u8], memory: &Memory, journal_len: usize, budget: u64) -
         5
     } else if !budget_fits(budget) {
         6
+    } else if index_len.map_or(false, |length| !index_fits(length, memory.ram.len())) {
+        10
     } else {
         0
     }

@@ -1,11 +1,12 @@
 //! Run with records: each step fills its slot of the journal.
 
 use crate::answer::Answer;
-use crate::calls::{move_on, run, run_steps};
+use crate::calls::{move_on, run_steps};
+use crate::index::{drop_oldest, note_step};
 use crate::layout::*;
 use crate::machine::{Entry, Machine};
 use crate::memory::Memory;
-use crate::record::Recorder;
+use crate::record::{NoRecord, Recorder};
 use crate::sizes::record_slots;
 use crate::step::take;
 
@@ -88,7 +89,8 @@ fn slot(journal: &mut [u8], number: u32) -> &mut Record {
     bytes.try_into().expect("a slot is 256 bytes")
 }
 
-/// `run`, and each step writes its record at next slot.
+/// `run`, and each step writes its record at next slot and moves the index on.
+/// With no slots neither is touched.
 #[allow(clippy::too_many_arguments)]
 pub fn run_with_records(
     image: &mut [u8],
@@ -97,33 +99,32 @@ pub fn run_with_records(
     ram: &mut [u8],
     paper: &mut [u8],
     journal: &mut [u8],
+    index: &mut [u8],
     budget: u64,
     stop_at_exceptions: u64,
 ) -> Answer {
-    let slots = record_slots(journal.len());
-    if slots == 0 {
-        return run(
-            image,
-            execution_rom,
-            bootstrap_rom,
-            ram,
-            paper,
-            journal,
-            budget,
-            stop_at_exceptions,
-        );
-    }
+    let slots = record_slots(journal.len()) as u32;
     let memory = Memory { execution_rom, bootstrap_rom, ram, paper };
     run_steps(
         image,
         memory,
         journal.len(),
+        Some(index.len()),
         budget,
         stop_at_exceptions,
         |machine, memory, coming| {
+            if slots == 0 {
+                return take(machine, memory, &mut NoRecord, coming);
+            }
             let record = slot(journal, machine.next_slot);
+            let most_below = slots - 1;
+            if machine.on_hand == slots {
+                drop_oldest(index, record, machine.clock.wrapping_sub(most_below.into()));
+            }
+            let below = machine.on_hand.min(most_below);
             let entered = take(machine, memory, &mut RecordWriter::start(record, machine), coming);
-            move_on(machine, slots as u32);
+            note_step(index, record, memory.ram, machine.clock, below);
+            move_on(machine, slots);
             entered
         },
     )

@@ -35,6 +35,13 @@ pub const WHICH: usize = 20;
 pub const OLD: usize = 21;
 pub const OLD_LOW: usize = 22;
 
+/// Of a RAM word, in the place of OLD_LOW: how many steps before this one the
+/// step was that changed the word's frame last; 0 where none was on hand.
+pub const DISTANCE: usize = 22;
+
+/// No step on hand is further back than this.
+const MOST_DISTANCE: u32 = 65_535;
+
 pub const NOTHING: u32 = 0;
 pub const REGISTER: u32 = 1;
 pub const TLB_ROW: u32 = 2;
@@ -71,7 +78,7 @@ fn kind_keeps_layout(record: &Record) -> bool {
         NOTHING => which == 0 && old == 0 && old_low == 0,
         REGISTER => (1..=31).contains(&which) && old_low == 0,
         TLB_ROW => which <= 15,
-        RAM_WORD => which % 4 == 0 && old_low == 0,
+        RAM_WORD => which % 4 == 0 && word(record, DISTANCE) <= MOST_DISTANCE,
         _ => false,
     }
 }

@@ -1,5 +1,5 @@
-//! A plain emulator of the machine of document 01, with requests L2 and L5 of
-//! document 02, written from these papers, the manual and the MIPS I instruction
+//! A plain emulator of the machine of document 01, with requests L2, L5 and L6
+//! of document 02, written from these papers, the manual and the MIPS I instruction
 //! set only. It is the yardstick for other emulators of the same machine, in
 //! results and in speed.
 
@@ -16,7 +16,9 @@ mod exception;
 mod execute;
 mod history;
 mod image;
+mod index;
 mod journal;
+mod last_write;
 pub mod layout;
 mod load_store;
 mod look;
@@ -39,6 +41,7 @@ pub use convert::convert;
 pub use history::History;
 pub use image::{decode, encode, IMAGE_BYTES, OLD_IMAGE_BYTES};
 pub use journal::run_with_records;
+pub use last_write::{last_write, LAST_WRITE_BYTES};
 pub use look::step_meets_two;
 pub use machine::{Entry, Machine, Printer};
 pub use memory::Memory;

@@ -1,11 +1,16 @@
-//! The ranges of rows 1 to 4 and 6.
+//! The ranges of rows 1 to 4, 6 and 10.
 
 pub const RECORD_BYTES: usize = 256;
 
-const FRAME_BYTES: usize = 4_096;
+pub const FRAME_BYTES: usize = 4_096;
+
+const MOST_FRAMES: usize = 4_096;
+
+/// Of the index, for each frame.
+pub const ENTRY_BYTES: usize = 16;
 
 pub fn ram_fits(length: usize) -> bool {
-    length % FRAME_BYTES == 0 && (1..=4_096).contains(&(length / FRAME_BYTES))
+    length % FRAME_BYTES == 0 && (1..=MOST_FRAMES).contains(&(length / FRAME_BYTES))
 }
 
 pub fn rom_fits(length: usize) -> bool {
@@ -34,6 +39,16 @@ pub fn installed_fits(installed: u64) -> bool {
 
 pub fn budget_fits(budget: u64) -> bool {
     budget <= 1_000_000
+}
+
+/// With RAM that fits.
+pub fn index_fits(length: usize, ram_len: usize) -> bool {
+    length == ram_len / FRAME_BYTES * ENTRY_BYTES
+}
+
+/// At a reset, where no RAM is lent.
+pub fn any_index_fits(length: usize) -> bool {
+    length % ENTRY_BYTES == 0 && (1..=MOST_FRAMES).contains(&(length / ENTRY_BYTES))
 }
 
 pub fn record_slots(journal_len: usize) -> usize {

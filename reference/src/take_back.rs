@@ -2,10 +2,11 @@
 
 use crate::answer::{Answer, NO_REASON};
 use crate::image::{decode, encode};
+use crate::index::forget_step;
 use crate::layout::*;
 use crate::machine::{Entry, Machine, Printer};
 use crate::rules::{keeps_rules, machine_keeps_rules};
-use crate::sizes::{journal_fits, paper_fits, ram_fits, record_slots};
+use crate::sizes::{index_fits, journal_fits, paper_fits, ram_fits, record_slots};
 use crate::status::Status;
 
 /// Undoes the newest steps from their records.
@@ -14,6 +15,7 @@ pub fn take_back(
     ram: &mut [u8],
     paper: &mut [u8],
     journal: &[u8],
+    index: &mut [u8],
     steps: u64,
 ) -> Answer {
     let refusal = take_back_refusal(image, ram.len(), paper.len(), journal.len(), steps);
@@ -22,23 +24,43 @@ pub fn take_back(
     }
     let steps = steps as u32;
     let now = decode(image);
-    let mut machine = now.clone();
     // All records are judged before anything is written: the last may be bad.
-    for record in newest_first(journal, now.next_slot, steps) {
-        if !(keeps_layout(record) && places_fit(record, ram.len(), paper.len())) {
-            return Answer::refused(8);
-        }
-        undo(&mut machine, record, record_slots(journal.len()) as u32);
-        if !machine_keeps_rules(&machine, paper.len(), journal.len()) {
-            return Answer::refused(8);
-        }
+    let machine = match undone(&now, ram.len(), paper.len(), journal, steps) {
+        Some(machine) => machine,
+        None => return Answer::refused(8),
+    };
+    if !index_fits(index.len(), ram.len()) {
+        return Answer::refused(10);
     }
-    for record in newest_first(journal, now.next_slot, steps) {
+    for (newer, record) in (0..).zip(newest_first(journal, now.next_slot, steps)) {
+        forget_step(index, record, now.clock.wrapping_sub(newer.into()), now.on_hand - newer - 1);
         give_back_ram(record, ram);
         give_back_paper(record, paper);
     }
     encode(&machine, image);
     Answer::done(NO_REASON, steps)
+}
+
+/// The machine so many steps before; None where one of their records is not well
+/// formed.
+pub(crate) fn undone(
+    now: &Machine,
+    ram_len: usize,
+    paper_len: usize,
+    journal: &[u8],
+    steps: u32,
+) -> Option<Machine> {
+    let mut machine = now.clone();
+    for record in newest_first(journal, now.next_slot, steps) {
+        if !(keeps_layout(record) && places_fit(record, ram_len, paper_len)) {
+            return None;
+        }
+        undo(&mut machine, record, record_slots(journal.len()) as u32);
+        if !machine_keeps_rules(&machine, paper_len, journal.len()) {
+            return None;
+        }
+    }
+    Some(machine)
 }
 
 /// Rows 1 to 7, as far as take-back is given what they look at.
@@ -65,7 +87,11 @@ pub(crate) fn take_back_refusal(
 }
 
 /// The slots just before `next_slot`, going down and round the journal's start.
-fn newest_first(journal: &[u8], next_slot: u32, steps: u32) -> impl Iterator<Item = &Record> {
+pub(crate) fn newest_first(
+    journal: &[u8],
+    next_slot: u32,
+    steps: u32,
+) -> impl Iterator<Item = &Record> {
     let (before, from) = journal.split_at(next_slot as usize * RECORD_BYTES);
     let slots =
         before.chunks_exact(RECORD_BYTES).rev().chain(from.chunks_exact(RECORD_BYTES).rev());

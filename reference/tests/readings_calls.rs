@@ -36,7 +36,7 @@ fn reading_67_rules_look_at_the_lent_lengths() {
 #[test]
 fn reading_68_reset_looks_at_the_length_only() {
     let mut image = vec![0xFF; IMAGE_BYTES];
-    assert_eq!(reset(&mut image, 1, DELAY.into(), 5), Answer::done(0, 0));
+    assert_eq!(reset(&mut image, &mut [0xFF; 16], 1, DELAY.into(), 5), Answer::done(0, 0));
     assert_eq!(image, reset_image());
 }
 
@@ -81,7 +81,7 @@ fn reading_77_one_slot() {
 fn reading_88_reset_empties_the_journal() {
     let mut image = Bench::new().run(3).image();
     assert_eq!(reference::decode(&image).on_hand, 3);
-    reset(&mut image, 1, 1, 0);
+    reset(&mut image, &mut [0; 16], 1, 1, 0);
     let machine = reference::decode(&image);
     assert_eq!((machine.on_hand, machine.next_slot), (0, 0));
 }

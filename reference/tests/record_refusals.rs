@@ -18,12 +18,12 @@ fn length(dice: &mut Dice, good: usize, bad: &[u32]) -> (usize, bool) {
 }
 
 /// What each row of take-back says of a call, lowest first.
-const ROWS: [u8; 6] = [1, 3, 4, 5, 7, 8];
+const ROWS: [u8; 7] = [1, 3, 4, 5, 7, 8, 10];
 
 #[test]
 fn take_back_answers_the_lowest_number() {
     let mut dice = Dice::new(41);
-    let mut met = [0u32; 9];
+    let mut met = [0u32; 11];
     for _ in 0..4_000 {
         let mut bench = Bench::with(&[NOP, sw(4, 0x100, 9), addiu(4, 0, 7), TLBWR]);
         bench.run_records(4, 0);
@@ -49,15 +49,24 @@ fn take_back_answers_the_lowest_number() {
         }
         image.resize(image_len, 0);
         let records_fit = record_fits || u64::from(bad_record) >= steps;
-        let rows =
-            [ram_fits, paper_fits, journal_fits, image_fits && !broken, count_fits, records_fit];
+        let (index, index_fits) = length(&mut dice, ram / 4_096 * 16, &[0, 16, 31, 48]);
+        let rows = [
+            ram_fits,
+            paper_fits,
+            journal_fits,
+            image_fits && !broken,
+            count_fits,
+            records_fit,
+            index_fits,
+        ];
         let expected = rows.iter().position(|fits| !fits).map_or(0, |row| ROWS[row]);
         bench.ram.resize(ram, 7);
         bench.paper.resize(paper, 7);
         bench.journal.resize(journal, 7);
+        bench.index.resize(index, 7);
         let before = (image.clone(), bench.clone());
         let (ram, paper, journal) = (&mut bench.ram, &mut bench.paper, &bench.journal);
-        let answer = reference::take_back(&mut image, ram, paper, journal, steps);
+        let answer = reference::take_back(&mut image, ram, paper, journal, &mut bench.index, steps);
         if expected == 0 {
             assert_eq!(answer, Answer::done(0, steps as u32));
             assert_eq!(image == before.0, steps == 0);
@@ -90,6 +99,7 @@ fn run_bench(dice: &mut Dice) -> Bench {
     if dice.chance(8) {
         bench.machine.random = 0;
     }
+    bench.fit_index();
     bench
 }
 
@@ -109,6 +119,7 @@ fn run_with_records_answers_as_run() {
             assert_eq!(recorded, before);
         }
         plain.journal = recorded.journal.clone();
+        plain.index = recorded.index.clone();
         assert_eq!(recorded, plain);
         met[answer.number as usize] += 1;
     }

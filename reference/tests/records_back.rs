@@ -34,9 +34,9 @@ impl Replayed {
     }
 }
 
-/// The same bench with the journal of another.
+/// The same bench with the journal and the index of another.
 fn with_journal_of(bench: &Bench, other: &Bench) -> Bench {
-    Bench { journal: other.journal.clone(), ..bench.clone() }
+    Bench { journal: other.journal.clone(), index: other.index.clone(), ..bench.clone() }
 }
 
 #[derive(Default, Debug)]

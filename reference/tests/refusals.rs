@@ -75,9 +75,9 @@ fn lowest_number_of_run() {
 #[test]
 fn reset_rows_5_and_6() {
     for length in [0, IMAGE_BYTES - 1, IMAGE_BYTES + 1] {
-        let mut image = vec![3; length];
-        assert_eq!(reset(&mut image, 0, 0, 256), Answer::refused(5));
-        assert_eq!(image, vec![3; length]);
+        let (mut image, mut index) = (vec![3; length], [3; 17]);
+        assert_eq!(reset(&mut image, &mut index, 0, 0, 256), Answer::refused(5));
+        assert_eq!((image, index), (vec![3; length], [3; 17]));
     }
     let wide = (1 << 32) + 1;
     for (scale, delay, installed, number) in [
@@ -92,10 +92,11 @@ fn reset_rows_5_and_6() {
         (1, wide, 0, 6),
         (1, 1, 1 << 32, 6),
     ] {
-        let mut image = vec![0xEE; IMAGE_BYTES];
-        let answer = reset(&mut image, scale, delay, installed);
+        let (mut image, mut index) = (vec![0xEE; IMAGE_BYTES], [0xEE; 32]);
+        let answer = reset(&mut image, &mut index, scale, delay, installed);
         assert_eq!(answer, Answer { number, reason: 0, steps: 0 });
         assert_eq!(image == vec![0xEE; IMAGE_BYTES], number != 0);
+        assert_eq!(index, if number == 0 { [0; 32] } else { [0xEE; 32] });
     }
 }
 

@@ -11,6 +11,7 @@ enum {
     PAPER = 64,
     SLOTS = 4,
     JOURNAL = 256 * SLOTS,
+    INDEX = 16,
     REGISTER_9 = 5 + 4 * 8,
     ON_HAND = 5 + 4 * 122,
     NEXT_SLOT = 5 + 4 * 123,
@@ -28,9 +29,10 @@ static const uint8_t program[ROM] = {
 };
 
 static uint8_t image[LAVUSHMIR_IMAGE_BYTES], ram[RAM], paper[PAPER], journal[JOURNAL];
+static uint8_t frames[INDEX];
 /* What a call may write; the journal is only read. */
 struct lent {
-    uint8_t image[LAVUSHMIR_IMAGE_BYTES], ram[RAM], paper[PAPER], journal[JOURNAL];
+    uint8_t image[LAVUSHMIR_IMAGE_BYTES], ram[RAM], paper[PAPER], journal[JOURNAL], index[INDEX];
 };
 
 static void keep(struct lent *kept)
@@ -39,9 +41,11 @@ static void keep(struct lent *kept)
     memcpy(kept->ram, ram, RAM);
     memcpy(kept->paper, paper, PAPER);
     memcpy(kept->journal, journal, JOURNAL);
+    memcpy(kept->index, frames, INDEX);
 }
 
-/* All but on hand and next slot, two words of the image, and the journal. */
+/* All but on hand and next slot, two words of the image, the journal, and the index, which
+   depends on what is on hand. */
 static int same_state(const struct lent *kept)
 {
     return memcmp(kept->image, image, ON_HAND) == 0
@@ -52,7 +56,8 @@ static int same_state(const struct lent *kept)
 static int same_bytes(const struct lent *kept)
 {
     return same_state(kept) && memcmp(kept->image, image, sizeof image) == 0
-        && memcmp(kept->journal, journal, JOURNAL) == 0;
+        && memcmp(kept->journal, journal, JOURNAL) == 0
+        && memcmp(kept->index, frames, INDEX) == 0;
 }
 
 static unsigned word(size_t at)
@@ -66,20 +71,28 @@ static void prepare(void)
     memset(ram, 0xA1, RAM);
     memset(paper, 0xA2, PAPER);
     memset(journal, 0xA3, JOURNAL);
-    check(lavushmir_reset(image, sizeof image, 1, 1, 0xFF) == LAVUSHMIR_DONE, "reset");
+    memset(frames, 0xA4, INDEX);
+    check(lavushmir_reset(image, sizeof image, frames, INDEX, 1, 1, 0xFF) == LAVUSHMIR_DONE,
+          "reset");
 }
 
 static uint64_t run(uint64_t budget)
 {
     return lavushmir_run(image, sizeof image, program, ROM, program, ROM, ram, RAM, paper, PAPER,
-                         journal, JOURNAL, budget, 0);
+                         journal, JOURNAL, frames, INDEX, budget, 0);
 }
 
 static uint64_t take_back(size_t image_bytes, size_t ram_bytes, size_t paper_bytes,
                           size_t journal_bytes, uint64_t steps)
 {
     return lavushmir_take_back(image, image_bytes, ram, ram_bytes, paper, paper_bytes, journal,
-                               journal_bytes, steps);
+                               journal_bytes, frames, INDEX, steps);
+}
+
+/* The clock that the index has for the one frame; 0: none. */
+static uint64_t changed_at(void)
+{
+    return lavushmir_index_has(frames, 0) ? lavushmir_index_clock(frames, 0) : 0;
 }
 
 static uint64_t back(uint64_t steps)
@@ -108,6 +121,7 @@ static void there_and_back(void)
     keep(&after);
     check(ram[0] == 25, "SW has stored 25");
     check(word(ON_HAND) == SLOTS && word(NEXT_SLOT) == 2, "a full journal");
+    check(changed_at() == 3, "SW was the third step");
 
     answer = back(SLOTS);
     check(lavushmir_number(answer) == LAVUSHMIR_DONE, "four steps taken back");
@@ -117,10 +131,12 @@ static void there_and_back(void)
     check(ram[0] == 0xA1 && word(REGISTER_9) == 25, "RAM as it was, $9 set");
     check(word(ON_HAND) == 0 && word(NEXT_SLOT) == 2, "an empty journal");
     check(memcmp(after.journal, journal, JOURNAL) == 0, "its bytes stay");
+    check(changed_at() == 0, "and no change of the frame on hand");
     check(back(1) == LAVUSHMIR_NOT_ON_HAND, "the first two are gone");
 
     check(lavushmir_steps(run(4)) == 4, "the same steps again");
     check(same_state(&after), "leave the same state");
+    check(memcmp(after.index, frames, INDEX) == 0, "and the same index");
     for (i = 0; i < SLOTS; i++)
         check(back(1) == (uint64_t)1 << 32, "one step at a time");
     check(same_state(&second), "leads to the same place");
@@ -143,11 +159,11 @@ static void in_a_slot(void)
     prepare();
     keep(&start);
     lavushmir_run(image, sizeof image, slot, 8, slot, 8, ram, RAM, paper, PAPER, journal, JOURNAL,
-                  1, 0);
+                  frames, INDEX, 1, 0);
     keep(&between);
     check(word(SLOT_FLAG) == 1 && word(BRANCH) == 0x1FC00000, "behind the branch");
     answer = lavushmir_run(image, sizeof image, slot, 8, slot, 8, ram, RAM, paper, PAPER, journal,
-                           JOURNAL, 1, 1);
+                           JOURNAL, frames, INDEX, 1, 1);
     check(lavushmir_reason(answer) == LAVUSHMIR_EXCEPTION, "BREAK in the slot");
     check(word(SLOT_FLAG) == 0 && word(BRANCH) == 0, "an entry is no branch");
     check(back(1) == (uint64_t)1 << 32 && same_state(&between), "back to the slot");
@@ -170,6 +186,12 @@ static void refusals(void)
     refuses(back(4), LAVUSHMIR_NOT_ON_HAND, &kept, "7 before 8");
     refuses(back(((uint64_t)1 << 32) + 1), LAVUSHMIR_NOT_ON_HAND, &kept, "2^32 + 1 steps");
     refuses(back(3), LAVUSHMIR_BAD_RECORD, &kept, "only the last of three is bad");
+    refuses(lavushmir_take_back(image, sizeof image, ram, RAM, paper, PAPER, journal, JOURNAL,
+                                frames, 0, 3),
+            LAVUSHMIR_BAD_RECORD, &kept, "8 before 10");
+    refuses(lavushmir_take_back(image, sizeof image, ram, RAM, paper, PAPER, journal, JOURNAL,
+                                frames, INDEX - 1, 2),
+            LAVUSHMIR_BAD_INDEX, &kept, "another length of the index");
     check(back(2) == (uint64_t)2 << 32, "and the two before it are not");
     keep(&kept);
     refuses(back(1), LAVUSHMIR_BAD_RECORD, &kept, "it is bad alone");

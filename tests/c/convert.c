@@ -80,20 +80,20 @@ static void converts(void)
 static void goes_on(void)
 {
     static const uint8_t rom[4];
-    static uint8_t ram[RAM];
+    static uint8_t ram[RAM], frames[LAVUSHMIR_INDEX_ENTRY_BYTES];
     uint64_t answer;
     prepare();
     check(convert(OLD, NEW, PAPER, JOURNAL) == LAVUSHMIR_DONE, "a conversion");
     answer = lavushmir_take_back(lent.image, NEW, ram, RAM, lent.paper, PAPER, lent.journal,
-                                 JOURNAL, 1);
+                                 JOURNAL, frames, sizeof frames, 1);
     check(answer == LAVUSHMIR_NOT_ON_HAND, "nothing can be taken back");
     answer = lavushmir_run(lent.image, NEW, rom, 4, rom, 4, ram, RAM, lent.paper, PAPER,
-                           lent.journal, JOURNAL, 1, 0);
+                           lent.journal, JOURNAL, frames, sizeof frames, 1, 0);
     check(lavushmir_number(answer) == LAVUSHMIR_DONE, "a run");
     check(lavushmir_steps(answer) == 1, "of one step");
     check(lavushmir_image_word(lent.image, LAVUSHMIR_WORD_ON_HAND) == 1, "one step on hand");
     answer = lavushmir_run(lent.old, OLD, rom, 4, rom, 4, ram, RAM, lent.paper, PAPER,
-                           lent.journal, JOURNAL, 1, 0);
+                           lent.journal, JOURNAL, frames, sizeof frames, 1, 0);
     check(answer == LAVUSHMIR_BAD_IMAGE, "an old image does not run");
     memcpy(&kept, &lent, sizeof lent);
     answer = lavushmir_convert(lent.image, NEW, lent.old, OLD, lent.paper, PAPER, lent.journal,

@@ -16,19 +16,28 @@ static uint8_t other_rom[LAVUSHMIR_MOST_ROM_BYTES + 4];
 static uint8_t ram[MOST_RAM + LAVUSHMIR_FRAME_BYTES];
 static uint8_t paper[LAVUSHMIR_MOST_PAPER_BYTES + 8];
 static uint8_t journal[LAVUSHMIR_MOST_JOURNAL_BYTES + LAVUSHMIR_RECORD_BYTES];
+static uint8_t frames[(LAVUSHMIR_MOST_FRAMES + 1) * LAVUSHMIR_INDEX_ENTRY_BYTES];
+
+/* The index of RAM of so many bytes. */
+static size_t index_bytes(size_t ram_bytes)
+{
+    return ram_bytes / LAVUSHMIR_FRAME_BYTES * LAVUSHMIR_INDEX_ENTRY_BYTES;
+}
 
 static unsigned run_number(size_t rom_bytes, size_t ram_bytes, size_t paper_bytes,
                            size_t journal_bytes, uint64_t budget)
 {
     return lavushmir_number(lavushmir_run(image, sizeof image, rom, rom_bytes, other_rom,
                                           rom_bytes, ram, ram_bytes, paper, paper_bytes,
-                                          journal, journal_bytes, budget, 0));
+                                          journal, journal_bytes, frames, index_bytes(ram_bytes),
+                                          budget, 0));
 }
 
 static unsigned reset_number(uint64_t time_scale, uint64_t printer_delay)
 {
-    return lavushmir_number(
-        lavushmir_reset(image, sizeof image, time_scale, printer_delay, 0xFF));
+    return lavushmir_number(lavushmir_reset(image, sizeof image, frames,
+                                            LAVUSHMIR_INDEX_ENTRY_BYTES, time_scale,
+                                            printer_delay, 0xFF));
 }
 
 static void limits(void)
@@ -64,7 +73,9 @@ static void limits(void)
 static void words(void)
 {
     unsigned n, zeros = 0;
-    check(lavushmir_number(lavushmir_reset(image, sizeof image, 3, 77, 0x81)) == 0, "a reset");
+    check(lavushmir_number(lavushmir_reset(image, sizeof image, frames,
+                                           LAVUSHMIR_INDEX_ENTRY_BYTES, 3, 77, 0x81)) == 0,
+          "a reset");
     check(lavushmir_image_word(image, LAVUSHMIR_WORD_PC) == LAVUSHMIR_BOOTSTRAP_ROM_ADDRESS,
           "PC");
     check(lavushmir_image_word(image, LAVUSHMIR_WORD_NEXT_PC) == 0x1FC00004, "next PC");
@@ -101,12 +112,13 @@ static void words_after_a_step(void)
     memcpy(other_rom, break_word, 4);
     answer = lavushmir_run(image, sizeof image, rom, 4, other_rom, 4, ram,
                            LAVUSHMIR_FRAME_BYTES, paper, 0, journal, 2 * LAVUSHMIR_RECORD_BYTES,
-                           1, 1);
+                           frames, LAVUSHMIR_INDEX_ENTRY_BYTES, 1, 1);
     check(lavushmir_reason(answer) == LAVUSHMIR_EXCEPTION, "BREAK is an exception");
     check(lavushmir_image_word(image, LAVUSHMIR_WORD_EPC) == 0x1FC00000, "EPC");
     check(lavushmir_image_word(image, LAVUSHMIR_WORD_CAUSE) == 9 * 4, "Cause");
     check(lavushmir_image_word(image, LAVUSHMIR_WORD_CLOCK_LOW) == 1, "clock low");
     check(lavushmir_image_word(image, LAVUSHMIR_WORD_CLOCK_HIGH) == 0, "clock high");
+    check(lavushmir_clock(image) == 1, "the clock as one number");
     check(lavushmir_image_word(image, LAVUSHMIR_WORD_ON_HAND) == 1, "on hand");
     check(lavushmir_image_word(image, LAVUSHMIR_WORD_NEXT_SLOT) == 1, "next slot");
 }
@@ -121,7 +133,8 @@ static void words_in_a_slot(void)
     memcpy(other_rom, slot, sizeof slot);
     for (steps = 1; steps <= 2; steps++) {
         uint64_t answer = lavushmir_run(image, sizeof image, rom, 4, other_rom, sizeof slot, ram,
-                                        LAVUSHMIR_FRAME_BYTES, paper, 0, journal, 0, 1, 0);
+                                        LAVUSHMIR_FRAME_BYTES, paper, 0, journal, 0, frames,
+                                        LAVUSHMIR_INDEX_ENTRY_BYTES, 1, 0);
         uint32_t in_slot = steps == 1, branch = in_slot ? LAVUSHMIR_BOOTSTRAP_ROM_ADDRESS : 0;
         check(lavushmir_steps(answer) == 1, "a step");
         check(lavushmir_image_word(image, LAVUSHMIR_WORD_SLOT_FLAG) == in_slot, "slot flag");
@@ -156,7 +169,8 @@ static void two_matches(void)
     }
     memcpy(before, image, sizeof image);
     answer = lavushmir_run(image, sizeof image, rom, 4, other_rom, 4, ram,
-                           LAVUSHMIR_FRAME_BYTES, paper, 0, journal, 0, 5, 0);
+                           LAVUSHMIR_FRAME_BYTES, paper, 0, journal, 0, frames,
+                           LAVUSHMIR_INDEX_ENTRY_BYTES, 5, 0);
     check(lavushmir_number(answer) == LAVUSHMIR_DONE, "a run to two matches is done");
     check(lavushmir_reason(answer) == LAVUSHMIR_TWO_MATCHES, "two matches");
     check(lavushmir_steps(answer) == 0, "and no step");
@@ -167,14 +181,14 @@ static void two_matches(void)
 static void texts(void)
 {
     unsigned n, k;
-    for (n = 0; n <= LAVUSHMIR_BAD_ADDRESS + 1; n++)
+    for (n = 0; n <= LAVUSHMIR_BAD_ROOM + 1; n++)
         for (k = 0; k < n; k++)
             check(strcmp(lavushmir_text(n), lavushmir_text(k)) != 0, "two numbers, one text");
     for (n = 0; n <= LAVUSHMIR_TWO_MATCHES + 1; n++)
         for (k = 0; k < n; k++)
             check(strcmp(lavushmir_reason_text(n), lavushmir_reason_text(k)) != 0,
                   "two reasons, one text");
-    check(strcmp(lavushmir_text(255), lavushmir_text(LAVUSHMIR_BAD_ADDRESS + 1)) == 0,
+    check(strcmp(lavushmir_text(255), lavushmir_text(LAVUSHMIR_BAD_ROOM + 1)) == 0,
           "a number that there is not");
 }
 

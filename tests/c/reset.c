@@ -7,6 +7,19 @@
 #include <string.h>
 
 enum { GUARD = 16, ROOM = GUARD + LAVUSHMIR_IMAGE_BYTES + 1 + GUARD };
+enum { FRAMES = 3, INDEX = FRAMES * LAVUSHMIR_INDEX_ENTRY_BYTES };
+enum { MOST_INDEX = LAVUSHMIR_MOST_FRAMES * LAVUSHMIR_INDEX_ENTRY_BYTES };
+
+static uint8_t frames[GUARD + MOST_INDEX + LAVUSHMIR_INDEX_ENTRY_BYTES];
+
+/* Whether the bytes behind the guard are 0 up to `bytes`, and all others as filled. */
+static int emptied(size_t bytes)
+{
+    size_t i, wrong = 0;
+    for (i = 0; i < sizeof frames; i++)
+        wrong += frames[i] != (i >= GUARD && i < GUARD + bytes ? 0 : 0xC9);
+    return wrong == 0;
+}
 
 /* A buffer in which no byte is what reset writes there by chance alone. */
 static void fill(uint8_t *room)
@@ -25,28 +38,40 @@ static void check_answer(uint64_t answer, unsigned number, const char *what)
     check(answer == number, what);
 }
 
-static void refuses(size_t bytes, uint64_t time_scale, uint64_t printer_delay,
-                    uint64_t installed, unsigned number, const char *what)
+static void refuses_index(size_t bytes, size_t index_bytes, uint64_t time_scale,
+                          uint64_t printer_delay, uint64_t installed, unsigned number,
+                          const char *what)
 {
     uint8_t room[ROOM], before[ROOM];
     fill(room);
+    memset(frames, 0xC9, sizeof frames);
     memcpy(before, room, ROOM);
-    check_answer(lavushmir_reset(room + GUARD, bytes, time_scale, printer_delay, installed),
+    check_answer(lavushmir_reset(room + GUARD, bytes, frames + GUARD, index_bytes, time_scale,
+                                 printer_delay, installed),
                  number, what);
     check(memcmp(room, before, ROOM) == 0, what);
+    check(emptied(0), what);
 }
 
-static void resets(uint64_t time_scale, uint64_t printer_delay, uint64_t installed,
-                   const uint8_t *expected, const char *what)
+static void refuses(size_t bytes, uint64_t time_scale, uint64_t printer_delay,
+                    uint64_t installed, unsigned number, const char *what)
+{
+    refuses_index(bytes, INDEX, time_scale, printer_delay, installed, number, what);
+}
+
+static void resets(size_t index_bytes, uint64_t time_scale, uint64_t printer_delay,
+                   uint64_t installed, const uint8_t *expected, const char *what)
 {
     uint8_t room[ROOM], before[ROOM];
     uint8_t *image = room + GUARD;
     size_t behind = GUARD + LAVUSHMIR_IMAGE_BYTES;
     fill(room);
+    memset(frames, 0xC9, sizeof frames);
     memcpy(before, room, ROOM);
-    check_answer(
-        lavushmir_reset(image, LAVUSHMIR_IMAGE_BYTES, time_scale, printer_delay, installed),
-        LAVUSHMIR_DONE, what);
+    check_answer(lavushmir_reset(image, LAVUSHMIR_IMAGE_BYTES, frames + GUARD, index_bytes,
+                                 time_scale, printer_delay, installed),
+                 LAVUSHMIR_DONE, what);
+    check(emptied(index_bytes), what);
     check(memcmp(image, expected, LAVUSHMIR_IMAGE_BYTES) == 0, what);
     check(memcmp(room, before, GUARD) == 0, what);
     check(memcmp(room + behind, before + behind, ROOM - behind) == 0, what);
@@ -72,7 +97,7 @@ int main(void)
     check(sizeof reset_image == LAVUSHMIR_IMAGE_BYTES, "509 bytes are written out");
     unpacks();
 
-    resets(0x12, 0x3456, 0xA5, reset_image, "reset with 0x12, 0x3456, 0xA5");
+    resets(INDEX, 0x12, 0x3456, 0xA5, reset_image, "reset with 0x12, 0x3456, 0xA5");
 
     /* The lowest and the highest parameters: the last bytes of their words,
        and of each printer's STATUS, differ from the image written out. */
@@ -82,13 +107,13 @@ int main(void)
     expected[324] = 1;
     expected[328] = 0;
     expected[332] = expected[372] = expected[432] = expected[472] = 0;
-    resets(1, 1, 0, expected, "reset with the lowest parameters");
+    resets(LAVUSHMIR_INDEX_ENTRY_BYTES, 1, 1, 0, expected, "reset with the lowest parameters");
     expected[320] = 255;
     expected[323] = expected[324] = 255;
     expected[328] = 255;
     expected[332] = expected[352] = expected[372] = expected[392] = 1;
     expected[412] = expected[432] = expected[452] = expected[472] = 1;
-    resets(255, 65535, 255, expected, "reset with the highest parameters");
+    resets(MOST_INDEX, 255, 65535, 255, expected, "reset with the highest parameters");
 
     refuses(0, 1, 1, 0, LAVUSHMIR_BAD_IMAGE, "no image bytes");
     refuses(501, 1, 1, 0, LAVUSHMIR_BAD_IMAGE, "501 image bytes, as in version 1");
@@ -104,6 +129,11 @@ int main(void)
     refuses(509, 1, 1, 256, LAVUSHMIR_BAD_PARAMETER, "installed map 256");
     refuses(509, 1, 1, past, LAVUSHMIR_BAD_PARAMETER, "installed map 2^32");
     refuses(509, UINT64_MAX, UINT64_MAX, UINT64_MAX, LAVUSHMIR_BAD_PARAMETER, "all ones");
+    refuses_index(508, 0, 0, 0, 256, LAVUSHMIR_BAD_IMAGE, "5 comes before 10");
+    refuses_index(509, 0, 0, 1, 0, LAVUSHMIR_BAD_PARAMETER, "6 comes before 10");
+    refuses_index(509, 0, 1, 1, 0, LAVUSHMIR_BAD_INDEX, "no index");
+    refuses_index(509, INDEX - 1, 1, 1, 0, LAVUSHMIR_BAD_INDEX, "a part of an entry");
+    refuses_index(509, MOST_INDEX + 16, 1, 1, 0, LAVUSHMIR_BAD_INDEX, "4,097 entries");
 
     return checked("reset");
 }

@@ -4,6 +4,8 @@ extern "C" {
     fn lavushmir_reset(
         image: *mut u8,
         image_bytes: usize,
+        index: *mut u8,
+        index_bytes: usize,
         time_scale: u64,
         printer_delay: u64,
         installed: u64,
@@ -22,6 +24,8 @@ extern "C" {
         paper_bytes: usize,
         journal: *mut u8,
         journal_bytes: usize,
+        index: *mut u8,
+        index_bytes: usize,
         budget: u64,
         stop_at_exceptions: u64,
     ) -> u64;
@@ -35,7 +39,27 @@ extern "C" {
         paper_bytes: usize,
         journal: *const u8,
         journal_bytes: usize,
+        index: *mut u8,
+        index_bytes: usize,
         steps: u64,
+    ) -> u64;
+
+    // Only tests/index asks.
+    #[allow(dead_code)]
+    fn lavushmir_last_write(
+        image: *const u8,
+        image_bytes: usize,
+        ram: *const u8,
+        ram_bytes: usize,
+        paper: *const u8,
+        paper_bytes: usize,
+        journal: *const u8,
+        journal_bytes: usize,
+        index: *const u8,
+        index_bytes: usize,
+        address: u64,
+        answer: *mut u8,
+        answer_bytes: usize,
     ) -> u64;
 
     // Only tests/slots converts.
@@ -52,10 +76,24 @@ extern "C" {
     ) -> u64;
 }
 
-pub fn reset(image: &mut [u8], time_scale: u64, printer_delay: u64, installed: u64) -> u64 {
-    // SAFETY: pointer and length are those of one live slice.
+pub fn reset(
+    image: &mut [u8],
+    index: &mut [u8],
+    time_scale: u64,
+    printer_delay: u64,
+    installed: u64,
+) -> u64 {
+    // SAFETY: each pointer and length are those of one live slice of its own.
     unsafe {
-        lavushmir_reset(image.as_mut_ptr(), image.len(), time_scale, printer_delay, installed)
+        lavushmir_reset(
+            image.as_mut_ptr(),
+            image.len(),
+            index.as_mut_ptr(),
+            index.len(),
+            time_scale,
+            printer_delay,
+            installed,
+        )
     }
 }
 
@@ -67,6 +105,7 @@ pub fn run(
     ram: &mut [u8],
     paper: &mut [u8],
     journal: &mut [u8],
+    index: &mut [u8],
     budget: u64,
     stop_at_exceptions: u64,
 ) -> u64 {
@@ -86,6 +125,8 @@ pub fn run(
             paper.len(),
             journal.as_mut_ptr(),
             journal.len(),
+            index.as_mut_ptr(),
+            index.len(),
             budget,
             stop_at_exceptions,
         )
@@ -97,6 +138,7 @@ pub fn take_back(
     ram: &mut [u8],
     paper: &mut [u8],
     journal: &[u8],
+    index: &mut [u8],
     steps: u64,
 ) -> u64 {
     // SAFETY: as in `run`; the journal is only read.
@@ -110,7 +152,39 @@ pub fn take_back(
             paper.len(),
             journal.as_ptr(),
             journal.len(),
+            index.as_mut_ptr(),
+            index.len(),
             steps,
+        )
+    }
+}
+
+#[allow(dead_code)]
+pub fn last_write(
+    image: &[u8],
+    ram: &[u8],
+    paper: &[u8],
+    journal: &[u8],
+    index: &[u8],
+    address: u64,
+    answer: &mut [u8],
+) -> u64 {
+    // SAFETY: as in `run`; only the answer is written.
+    unsafe {
+        lavushmir_last_write(
+            image.as_ptr(),
+            image.len(),
+            ram.as_ptr(),
+            ram.len(),
+            paper.as_ptr(),
+            paper.len(),
+            journal.as_ptr(),
+            journal.len(),
+            index.as_ptr(),
+            index.len(),
+            address,
+            answer.as_mut_ptr(),
+            answer.len(),
         )
     }
 }

@@ -4,15 +4,16 @@ use crate::lavushmir;
 use crate::lent::{Lent, Slices};
 
 pub fn reset(lent: &mut Lent, [time_scale, delay, installed]: [u64; 3]) -> u64 {
-    lavushmir::reset(lent.image.content_mut(), time_scale, delay, installed)
+    let Slices { image, index, .. } = lent.slices();
+    lavushmir::reset(image, index, time_scale, delay, installed)
 }
 
 pub fn run(lent: &mut Lent, budget: u64, stop: u64) -> u64 {
-    let Slices { image, execution, bootstrap, ram, paper, journal } = lent.slices();
-    lavushmir::run(image, execution, bootstrap, ram, paper, journal, budget, stop)
+    let Slices { image, execution, bootstrap, ram, paper, journal, index } = lent.slices();
+    lavushmir::run(image, execution, bootstrap, ram, paper, journal, index, budget, stop)
 }
 
 pub fn take_back(lent: &mut Lent, steps: u64) -> u64 {
-    let Slices { image, ram, paper, journal, .. } = lent.slices();
-    lavushmir::take_back(image, ram, paper, journal, steps)
+    let Slices { image, ram, paper, journal, index, .. } = lent.slices();
+    lavushmir::take_back(image, ram, paper, journal, index, steps)
 }

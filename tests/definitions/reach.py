@@ -18,12 +18,14 @@ import sys
 
 # What the public calls and the theorems over them state. Everything that a reader must believe is reached from here.
 STATEMENTS = [
-    "runLeaves", "backLeaves", "resetAnswer", "resetImage", "romAnswer", "windowOf", "packedOf",
-    "ResetIs", "ConvertIs", "buffersOf", "buffersBack", "PackedResetIs", "PackedConvertIs", "PackedIs", "Unchanged",
-    "Booted", "demand3.calledAll", "TakesBack", "marked",
+    "runLeaves", "backLeaves", "resetAnswer", "resetImage", "resetIndex", "lastWriteAnswer", "lastWriteBytes",
+    "romAnswer", "windowOf", "packedOf",
+    "ResetIs", "ConvertIs", "LastWriteIs", "buffersOf", "buffersBack",
+    "PackedResetIs", "PackedConvertIs", "PackedIs", "PackedLastWriteIs", "Unchanged",
+    "Booted", "demand3.calledAll", "TakesBack", "demand3.indexOf", "marked",
     "Claim", "EachClaim", "RunClaim",
     "SlotTold", "KeepsBranch", "readsOf", "Agree",
-    "lastChangeOf", "newestAtOf", "oldestAtOf", "Tells", "pcsAgo", "agoIn",
+    "lastChangeOf", "newestAtOf", "oldestAtOf", "Tells", "pcsAgo", "agoIn", "TellsLast",
     "isa.encodeOf", "isa.Proper",
     "commandOf", "text.numberOf", "text.Laid", "text.decimalOf", "text.groupedOf", "text.signedOf", "text.hexOf",
 ]

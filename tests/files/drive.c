@@ -16,15 +16,16 @@
 #include <string.h>
 #include <unistd.h>
 
-enum { IMAGE, RAM, PAPER, JOURNAL, FILES };
+enum { IMAGE, RAM, PAPER, JOURNAL, INDEX, FILES };
 #define MIB ((size_t)1 << 20)
 
-static unsigned char rom[2][4096], image[509], ram[16u << 20], paper[65536], journal[16u << 20];
-static sf_file roms[2] = {{"execution.rom", rom[0], 0, 4096}, {"bootstrap.rom", rom[1], 0, 4096}};
-static sf_file files[FILES] = {{"image", image, 0, sizeof image},
-                               {"ram", ram, 0, sizeof ram},
-                               {"paper", paper, 0, sizeof paper},
-                               {"journal", journal, 0, sizeof journal}};
+static unsigned char rom[2][4096], image[509], ram[16u << 20], paper[65536], journal[16u << 20], index_[65536];
+static sf_file roms[2] = {{"execution.rom", rom[0], 0, 4096, 0}, {"bootstrap.rom", rom[1], 0, 4096, 0}};
+static sf_file files[FILES] = {{"image", image, 0, sizeof image, 0},
+                               {"ram", ram, 0, sizeof ram, 0},
+                               {"paper", paper, 0, sizeof paper, 0},
+                               {"journal", journal, 0, sizeof journal, 0},
+                               {"index", index_, 0, sizeof index_, 1}};
 
 static void fill(sf_file *f, unsigned long seed, size_t length)
 {
@@ -45,6 +46,7 @@ static void make_state(unsigned long seed)
     fill(&files[RAM], seed + 1, big ? 16 * MIB : 4096);
     fill(&files[PAPER], seed + 2, big ? 65536 : seed % 3 * 50); /* also empty */
     fill(&files[JOURNAL], seed + 3, big ? 16 * MIB : seed % 5 * 300);
+    fill(&files[INDEX], seed + 4, big ? 65536 : (seed + 1) % 3 * 16); /* also not there */
 }
 
 static void show(const sf_file *f, size_t count)
@@ -76,7 +78,7 @@ static int run_wrong(sf_station *s)
     static const char *const names[] = {"", "sums", "a/b", "..", "7", "Ram", "current", "current.new", ".x", "a b",
                                         "abcdefghijklmnopqrstuvwxyz-12345"};
     static sf_file many[SF_FILES_MAX + 1];
-    sf_file f = {"ram", ram, 5, 4};
+    sf_file f = {"ram", ram, 5, 4, 0};
     int good = sf_save(s, &f, 1) == SF_TROUBLE; /* longer than its array */
     f.length = 4;
     for (size_t i = 0; i < sizeof names / sizeof *names; i++) {

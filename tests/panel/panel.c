@@ -96,11 +96,13 @@ static uint64_t make(struct station *s)
     give_back(s->ram);
     give_back(s->paper);
     give_back(s->journal);
+    give_back(s->index);
     s->execution = execution;
     s->bootstrap = bootstrap;
     s->ram = lend((size_t)s->session[STATION_WORD_RAM_BYTES]);
     s->paper = lend((size_t)s->session[STATION_WORD_PAPER_BYTES]);
     s->journal = lend((size_t)s->session[STATION_WORD_JOURNAL_BYTES]);
+    s->index = lend((size_t)s->session[STATION_WORD_INDEX_BYTES]);
     return STATION_EVENT_MADE;
 }
 

@@ -66,10 +66,11 @@ static struct station random_station(void)
     s.ram = random_buffer(dice(20) == 0 ? dice(9000) : 4096 * (1 + dice(3)));
     s.paper = random_buffer(dice(20) == 0 ? dice(100) : 8 * dice(20));
     s.journal = random_buffer(dice(20) == 0 ? dice(1000) : 256 * dice(40));
-    s.session[10] = 3;
-    s.session[15] = 1 + dice(255);
-    s.session[16] = 1 + dice(30);
-    s.session[17] = dice(256);
+    s.index = random_buffer(dice(20) == 0 ? dice(100) : s.ram.len / 256);
+    s.session[11] = 3; /* the mode, and the three parameters: crates/session/src/words.rt */
+    s.session[16] = 1 + dice(255);
+    s.session[17] = 1 + dice(30);
+    s.session[18] = dice(256);
     turn(&s, STATION_EVENT_MADE, &none, 0);
     s.session[STATION_WORD_IS_THERE] = dice(10) != 0;
     s.session[STATION_WORD_ON_TERMINAL] = dice(2);

@@ -50,7 +50,7 @@ static int guarded(struct lent b)
 
 struct station {
     uint64_t session[STATION_SESSION_WORDS];
-    struct lent out, image, execution, bootstrap, ram, paper, journal;
+    struct lent out, image, execution, bootstrap, ram, paper, journal, index;
 };
 
 static uint64_t turn(struct station *s, uint64_t event, const uint8_t *in, size_t in_bytes)
@@ -59,7 +59,8 @@ static uint64_t turn(struct station *s, uint64_t event, const uint8_t *in, size_
                               s->image.bytes, s->image.len, s->execution.bytes,
                               s->execution.len, s->bootstrap.bytes, s->bootstrap.len,
                               s->ram.bytes, s->ram.len, s->paper.bytes, s->paper.len,
-                              s->journal.bytes, s->journal.len);
+                              s->journal.bytes, s->journal.len, s->index.bytes,
+                              s->index.len);
 }
 
 /* With `other` for both sides where they are the same station. */
@@ -83,6 +84,7 @@ static struct station no_station(void)
     s.ram = lend(0);
     s.paper = lend(0);
     s.journal = lend(0);
+    s.index = lend(0);
     return s;
 }
 
@@ -90,7 +92,7 @@ static int all_guarded(const struct station *s)
 {
     return guarded(s->out) && guarded(s->image) && guarded(s->execution) &&
            guarded(s->bootstrap) && guarded(s->ram) && guarded(s->paper) &&
-           guarded(s->journal);
+           guarded(s->journal) && guarded(s->index);
 }
 
 static void leave(struct station s)
@@ -102,6 +104,7 @@ static void leave(struct station s)
     give_back(s.ram);
     give_back(s.paper);
     give_back(s.journal);
+    give_back(s.index);
 }
 
 /* What the machine runs after a reset: it stores 25 in 0x20000100 and then 1,

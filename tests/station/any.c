@@ -60,7 +60,7 @@ static void came(uint64_t event)
 
 static uint64_t answer(uint64_t *session, size_t line_bytes, size_t out_bytes)
 {
-    static const uint64_t limits[] = {16777216, 65536, 16777216};
+    static const uint64_t limits[] = {16777216, 65536, 16777216, 65536};
     static int turns;
     uint64_t wants = ++turns > TURNS ? STATION_WANTS_END : dice(9);
     for (int i = STATION_WORD_NAME_FROM; i <= STATION_WORD_SECOND_TO; i++)
@@ -69,7 +69,7 @@ static uint64_t answer(uint64_t *session, size_t line_bytes, size_t out_bytes)
         session[STATION_WORD_NAME_FROM] = session[STATION_WORD_SECOND_FROM] = 0;
         session[STATION_WORD_NAME_TO] = session[STATION_WORD_SECOND_TO] = line_bytes;
     }
-    for (int i = 0; i < 3; i++)
+    for (int i = 0; i < 4; i++)
         session[STATION_WORD_RAM_BYTES + i] = dice(8) > 0 ? 4096 : length(limits[i]);
     if (wants == STATION_WANTS_END && turns < TURNS / 2)
         wants = STATION_WANTS_INPUT;
@@ -81,7 +81,7 @@ uint64_t station_panel_turn(uint64_t *session, uint64_t event, const uint8_t *in
                             size_t out_bytes, uint8_t *image, size_t image_bytes, const uint8_t *execution,
                             size_t execution_bytes, const uint8_t *bootstrap, size_t bootstrap_bytes, uint8_t *ram,
                             size_t ram_bytes, uint8_t *paper, size_t paper_bytes, uint8_t *journal,
-                            size_t journal_bytes)
+                            size_t journal_bytes, uint8_t *index, size_t index_bytes)
 {
     static size_t line_bytes;
     unsigned sum = 0;
@@ -100,6 +100,7 @@ uint64_t station_panel_turn(uint64_t *session, uint64_t event, const uint8_t *in
     touch(ram, ram_bytes);
     touch(paper, paper_bytes);
     touch(journal, journal_bytes);
+    touch(index, index_bytes);
     return answer(session, line_bytes, out_bytes);
 }
 
@@ -137,4 +138,32 @@ uint64_t lavushmir_convert(const uint8_t *old, size_t old_bytes, uint8_t *image,
         abort();
     image[0] = image[image_bytes - 1] = (uint8_t)sum;
     return numbers[dice(4)];
+}
+
+/* Refused, or done with the state as it was, or done with another state. */
+uint64_t station_lay_index(uint8_t *image, size_t image_bytes, const uint8_t *execution, size_t execution_bytes,
+                           const uint8_t *bootstrap, size_t bootstrap_bytes, uint8_t *ram, size_t ram_bytes,
+                           uint8_t *paper, size_t paper_bytes, uint8_t *journal, size_t journal_bytes, uint8_t *index,
+                           size_t index_bytes)
+{
+    static const uint64_t numbers[] = {LAVUSHMIR_DONE, LAVUSHMIR_DONE, LAVUSHMIR_BAD_ROM, LAVUSHMIR_BAD_RECORD};
+    uint64_t number = numbers[dice(4)];
+    unsigned sum = 0;
+    for (size_t i = 0; i < execution_bytes; i++)
+        sum += execution[i];
+    for (size_t i = 0; i < bootstrap_bytes; i++)
+        sum += bootstrap[i];
+    if (image_bytes != LAVUSHMIR_IMAGE_BYTES || index_bytes != ram_bytes / 256 || sum == UINT32_MAX)
+        abort();
+    for (size_t i = 0; i < index_bytes; i++)
+        if (index[i] != 0)
+            abort();
+    touch(journal, journal_bytes);
+    touch(index, index_bytes);
+    if (number != LAVUSHMIR_DONE || dice(3) == 0) {
+        touch(image, image_bytes);
+        touch(ram, ram_bytes);
+        touch(paper, paper_bytes);
+    }
+    return number;
 }

@@ -1,7 +1,7 @@
 #!/bin/sh
 # The program lavushmir from end to end: the exit status of each kind of end,
 # scripts, signals, a terminal, the lock, damaged stations, a fault or a kill at
-# every system call of a save, and stations of the version before.
+# every system call of a save, and stations of earlier versions.
 #
 #     tests/station/run.sh ARCHIVE [PART ..]
 #

@@ -8,7 +8,7 @@ from program import B, ok
 LOOP = struct.pack("<5I", 0x3C082000, 0x25290001, 0xAD090000, 0x1000FFFD, 0)
 EXECUTION, BOOTSTRAP = B + "/execution", B + "/bootstrap"
 SMALL = ("new", "ram", "1", "paper", "8", "journal", "4", "execution", EXECUTION, "bootstrap", BOOTSTRAP)
-NAMES = ("image", "ram", "paper", "journal")
+NAMES = ("image", "ram", "paper", "journal", "index")
 
 
 def make_roms():
@@ -17,9 +17,10 @@ def make_roms():
 
 
 def state(s):
-    """The bytes of the generation in force."""
+    """The bytes of the generation in force. One of an earlier version has no index."""
     gen = get(s + "/current").split()[0].decode()
-    return {n: get("%s/%s/%s" % (s, gen, n)) for n in NAMES}
+    files = {n: "%s/%s/%s" % (s, gen, n) for n in NAMES}
+    return {n: get(p) for n, p in files.items() if n != "index" or os.path.exists(p)}
 
 
 def clock(s):

@@ -109,7 +109,7 @@ def largest(folder):
     """The largest machine, and files up to the length of its RAM and above it."""
     s, full = B + "/largest", b"\xa5" * (16 << 20)
     ok(s, "new", "ram", "4096", "paper", "65536", "journal", "65536", *SMALL[7:], folder=folder)
-    assert [len(f) for f in state(s).values()] == [509, 16 << 20, 65536, 16 << 20]
+    assert [len(f) for f in state(s).values()] == [509, 16 << 20, 65536, 16 << 20, 65536]
     for more, status in ((b"", 0), (b"\xa5", 1), (bytes(9), 1)):
         put(B + "/ram-file", full + more)
         r = run(s, "load", B + "/ram-file", "0x20000000", folder=folder)

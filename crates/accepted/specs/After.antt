@@ -1,4 +1,6 @@
 -- The world that lent buffers are, and the machine and the buffers that a run or a take-back leaves.
+use Prim.Native.Nat.{ℕ}
+use mathlib.Core.List.{List}
 use Rattle.ring.specs.Slots.{Ring}
 use Rattle.state.specs.Layout.{bytesOf, machineOf}
 use Rattle.state.specs.declared.machine.Machine.{Machine}
@@ -13,5 +15,5 @@ worldFrom b = worldIn (machineOf (b .image)) (b .beside .ram) (b .beside .paper)
 abbrev pub machineAfter : World → Ring → Machine
 machineAfter w g = record { cpu = w .cpu; board = w .board; journal = record { «on_hand» = g .hand; «next_slot» = g .next } }
 
-abbrev pub buffersAfter : Beside → World → Ring → Buffers
-buffersAfter b w g = record { image = bytesOf (machineAfter w g); beside = besideAfter b w g }
+abbrev pub buffersAfter : Beside → World → List ℕ → Ring → Buffers
+buffersAfter b w index g = record { image = bytesOf (machineAfter w g); beside = besideAfter b w index g }

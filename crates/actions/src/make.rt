@@ -13,6 +13,7 @@ use session::turn::says;
 use session::turn::tells;
 use session::words::CHANGED;
 use session::words::DELAY;
+use session::words::INDEX_BYTES;
 use session::words::INSTALLED;
 use session::words::IS_THERE;
 use session::words::JOURNAL_BYTES;
@@ -38,6 +39,7 @@ fn noted(session: &mut [u64; 32], fresh: Fresh) {
     session[RAM_BYTES] = fresh.ram % 4097 * 4096;
     session[PAPER_BYTES] = fresh.paper;
     session[JOURNAL_BYTES] = fresh.journal % 65537 * 256;
+    session[INDEX_BYTES] = fresh.ram % 4097 * 16;
     session[SCALE] = fresh.scale;
     session[DELAY] = fresh.delay;
     session[INSTALLED] = fresh.printers;

@@ -1,5 +1,6 @@
 // run, stepi: at most 100,000 steps in a turn, until as many as asked for are run, an exception or two matches stop them, or Ctrl-C comes.
 use message::Message;
+use message::blame::no_frame;
 use session::answer::GO_ON;
 use session::answer::Then;
 use session::event::INTERRUPT;
@@ -118,6 +119,7 @@ pub fn excepted(session: &mut [u64; 32], steps: u64, code: u64, place: u64) -> T
         f: 0,
         g: 0,
         h: 0,
+        frame: no_frame(),
     };
     says(report, Then::Ask)
 }

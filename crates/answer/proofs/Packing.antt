@@ -5,7 +5,7 @@ use native.Mathlib.Omega.{arith}
 use Rattle.answer.specs.declared.Reason.{Reason}
 use Rattle.answer.specs.declared.Reason.the-variants.{NoReason, BudgetSpent, Exception, TwoMatches}
 use Rattle.answer.specs.declared.Refusal.{Refusal}
-use Rattle.answer.specs.declared.Refusal.the-variants.{Ram, Rom, Paper, Journal, Image, Range, TooFar, BadRecord, Address}
+use Rattle.answer.specs.declared.Refusal.the-variants.{Ram, Rom, Paper, Journal, Image, Range, TooFar, BadRecord, Address, Index, Word, Room}
 use Rattle.answer.specs.declared.Answer.{Answer}
 use Rattle.answer.specs.declared.Answer.the-variants.{Done, Refused}
 use Rattle.answer.specs.Answer.{reasonNumber, refusalNumber, numberOf, reasonOf, stepsOf, packedOf}
@@ -41,6 +41,9 @@ refusal-small Range = omega arith
 refusal-small TooFar = omega arith
 refusal-small BadRecord = omega arith
 refusal-small Address = omega arith
+refusal-small Index = omega arith
+refusal-small Word = omega arith
+refusal-small Room = omega arith
 
 number-small : (a : Answer) → numberOf a < 2 ^ 8
 number-small (Done steps reason) = omega arith

@@ -3,7 +3,7 @@ use Prim.Native.Nat.{ℕ, _+_, _*_, _^_}
 use Rattle.answer.specs.declared.Reason.{Reason}
 use Rattle.answer.specs.declared.Reason.the-variants.{NoReason, BudgetSpent, Exception, TwoMatches}
 use Rattle.answer.specs.declared.Refusal.{Refusal}
-use Rattle.answer.specs.declared.Refusal.the-variants.{Ram, Rom, Paper, Journal, Image, Range, TooFar, BadRecord, Address}
+use Rattle.answer.specs.declared.Refusal.the-variants.{Ram, Rom, Paper, Journal, Image, Range, TooFar, BadRecord, Address, Index, Word, Room}
 use Rattle.answer.specs.declared.Answer.{Answer}
 use Rattle.answer.specs.declared.Answer.the-variants.{Done, Refused}
 
@@ -24,6 +24,10 @@ refusalNumber Range = 6
 refusalNumber TooFar = 7
 refusalNumber BadRecord = 8
 refusalNumber Address = 9
+-- document 02, L6
+refusalNumber Index = 10
+refusalNumber Word = 11
+refusalNumber Room = 12
 
 abbrev pub numberOf : Answer → ℕ
 numberOf (Done steps reason) = 0

@@ -1,5 +1,5 @@
--- Document 01, "Numbers for yes and no", rows 1 to 4: the lengths of what the host lends.
-use Prim.Native.Nat.{ℕ, _/_, _%_}
+-- Document 01, "Numbers for yes and no", rows 1 to 4, and document 02, row 10: the lengths of what the host lends.
+use Prim.Native.Nat.{ℕ, _*_, _/_, _%_}
 use mathlib.Core.Bool.{Bool, cond, _&&_}
 use lib.Dec.{eqb, leb}
 use Rattle.word.specs.Number.{between}
@@ -24,6 +24,14 @@ paperFits len = leb len 65536 && eqb (len % devices) 0
 -- 4: "journal is over 16,777,216 bytes or not a multiple of 256 (0 is allowed)"
 abbrev pub journalFits : ℕ → Bool
 journalFits len = leb len 16777216 && eqb (len % recordSize) 0
+
+-- 10 (document 02, L6): "Another index length", 16 bytes for each frame of the RAM lent
+abbrev pub indexFits : ℕ → ℕ → Bool
+indexFits ram len = eqb len (16 * (ram / 4096))
+
+-- at reset no RAM is lent: for some RAM that row 1 allows
+abbrev pub anyIndexFits : ℕ → Bool
+anyIndexFits len = eqb (len % 16) 0 && between 1 4096 (len / 16)
 
 -- the lowest of rows 1 to 4 that applies
 unfoldable pub lentTest : (execution bootstrap ram paper journal : ℕ) → Test

@@ -1,6 +1,6 @@
 // Rows 1 to 4 of document 01's numbers: whether what the host lends has a length that is allowed.
 ghost use mathlib.Core.Path.{_≡_};
-ghost use Rattle.answer.specs.Lent.{ramFits, romsFit, paperFits, journalFits, lentTest};
+ghost use Rattle.answer.specs.Lent.{ramFits, romsFit, paperFits, journalFits, indexFits, anyIndexFits, lentTest};
 use crate::Refusal;
 
 pub enum Test {
@@ -31,6 +31,20 @@ pub fn journal_fits(len: usize) -> bool
     ensures { λ r. ⌜ r ≡ journalFits len ⌝ }
 {
     (len <= 16777216) & (len % 256 == 0)
+}
+
+pub fn index_fits(ram: usize, len: usize) -> bool
+    ensures { λ r. ⌜ r ≡ indexFits ram len ⌝ }
+{
+    len == 16 * (ram / 4096)
+}
+
+// Of some RAM.
+pub fn any_index_fits(len: usize) -> bool
+    ensures { λ r. ⌜ r ≡ anyIndexFits len ⌝ }
+{
+    let frames = len / 16;
+    (len % 16 == 0) & ((1 <= frames) & (frames <= 4096))
 }
 
 pub fn lent_test(

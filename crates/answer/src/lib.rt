@@ -22,6 +22,9 @@ pub enum Refusal {
     TooFar,
     BadRecord,
     Address,
+    Index, // document 02, L6
+    Word,
+    Room,
 }
 
 pub enum Answer {
@@ -53,6 +56,9 @@ fn refusal_number(refusal: Refusal) -> u64
         Refusal::TooFar => 7,
         Refusal::BadRecord => 8,
         Refusal::Address => 9,
+        Refusal::Index => 10,
+        Refusal::Word => 11,
+        Refusal::Room => 12,
     }
 }
 

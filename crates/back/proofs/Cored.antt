@@ -13,8 +13,8 @@ pub core-laws : (roms : Roms) → Laws (both roms) Never
 core-laws roms =
     record {
       keeps = λ w never. never;
-      noted = λ w never. absurd never;
-      fits = λ w never. absurd never;
-      undoes = λ w never. absurd never;
+      noted = λ tag w never. absurd never;
+      fits = λ tag w never. absurd never;
+      undoes = λ tag w never. absurd never;
       cored = λ slot w. cored (recordOf slot) w;
     }

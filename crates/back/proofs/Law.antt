@@ -12,6 +12,7 @@ use Rattle.good.proofs.Lengths.{step-lengths, step-whole}
 use Rattle.undo.proofs.Laws.{cored}
 use Rattle.restored.proofs.Notes.{note-long, undoes}
 use Rattle.restored.proofs.Fits.{note-fits}
+use Rattle.marks.specs.Index.{distanceIn}
 use Rattle.back.specs.Back.{both}
 use Rattle.back.specs.Allowed.{Allowed}
 
@@ -30,8 +31,8 @@ module _ (roms : Roms) (execution : Below 256 (roms .execution)) (bootstrap : Be
   laws =
       record {
         keeps = keeps;
-        noted = λ w a. note-long roms w (a .good);
-        fits = λ w a. note-fits roms w (a .good) (a .whole);
-        undoes = λ w a. undoes roms w (a .good) (a .whole);
+        noted = λ tag w a. note-long (distanceIn tag) roms w (a .good);
+        fits = λ tag w a. note-fits (distanceIn tag) roms w (a .good) (a .whole);
+        undoes = λ tag w a. undoes (distanceIn tag) roms w (a .good) (a .whole);
         cored = λ slot w. cored (recordOf slot) w;
       }

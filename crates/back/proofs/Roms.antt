@@ -1,12 +1,12 @@
 -- No ROM has a part in taking back: it is the same whatever ROMs the machine ran with.
-use Prim.Native.Nat.{ℕ, zero, suc}
+use Prim.Native.Nat.{ℕ, zero, suc, _-_}
 use mathlib.Core.Path.{_≡_, refl, ap, ap₂, _∙_}
 use mathlib.Core.Bool.{Bool, true, false, cond, _&&_}
 use mathlib.Core.List.{List}
 use lib.Dec.{ltb}
 use Rattle.ring.specs.Slots.{Ring, lowered}
 use Rattle.ring.specs.Run.{Config}
-use Rattle.ring.specs.Back.{How, Took, recordAt, undone, allFit, takeBack, done, tooFar, badRecord}
+use Rattle.ring.specs.Back.{How, Took, recordAt, undone, undoneSide, allFit, takeBack, done, tooFar, badRecord}
 use Rattle.record.specs.Layout.{recordOf}
 use Rattle.step.specs.World.{World, Roms}
 use Rattle.undo.specs.Undo.{viewOf, undoOf}
@@ -26,37 +26,49 @@ module _ (roms : Roms) (n : ℕ) (bytes : List ℕ) (next : ℕ) where
       ap₂ (λ (before here : Bool). before && here) (fit-roms k w)
       (ap (λ (s : World). fitOf (recordAt (both noRoms) n bytes next k) (viewOf s)) (undone-roms k w))
 
+  pub side-roms : (k hand : ℕ) (w : World) (x : List ℕ) → undoneSide (both roms) n bytes next k hand w x ≡ undoneSide (both noRoms) n bytes next k hand w x
+  unfolding undoneSide
+  side-roms zero hand w x = refl
+  side-roms (suc k) hand w x =
+      ap₂ (λ (s : World) (y : List ℕ). both noRoms .backward (hand - k) (recordAt (both noRoms) n bytes next k) s y) (undone-roms k w) (side-roms k hand w x)
+
 -- ---- take-back
 
 -- what there is of it beside the type of machine that it is of
 pub record Plain : Type 0 where
   pub state : World
+  pub side : List ℕ
   pub ring : Ring
   pub answer : How
 
 abbrev pub plainOf : (roms : Roms) → Took (both roms) → Plain
-plainOf roms t = record { state = t .config .state; ring = t .config .ring; answer = t .answer }
+plainOf roms t = record { state = t .config .state; side = t .config .side; ring = t .config .ring; answer = t .answer }
 
-abbrev pub configIn : (roms : Roms) → World → Ring → Config (both roms .forward)
-configIn roms w g = record { state = w; ring = g }
+abbrev pub configIn : (roms : Roms) → World → List ℕ → Ring → Config (both roms .forward)
+configIn roms w x g = record { state = w; side = x; ring = g }
 
--- by the two tests and the state that undoing gives
-abbrev tookBy : (roms : Roms) → ℕ → ℕ → World → Ring → Bool → Bool → World → Took (both roms)
-tookBy roms n k w g far fit back =
-    cond far (record { config = configIn roms w g; answer = tooFar })
-    (cond fit (record { config = configIn roms back (lowered n k g); answer = done })
-    (record { config = configIn roms w g; answer = badRecord }))
+-- by the two tests and the state and the index that undoing gives
+abbrev tookBy : (roms : Roms) → ℕ → ℕ → World → List ℕ → Ring → Bool → Bool → World → List ℕ → Took (both roms)
+tookBy roms n k w x g far fit back left =
+    cond far (record { config = configIn roms w x g; answer = tooFar })
+    (cond fit (record { config = configIn roms back left (lowered n k g); answer = done })
+    (record { config = configIn roms w x g; answer = badRecord }))
 
-by-roms : (roms : Roms) (n k : ℕ) (w : World) (g : Ring) (far fit : Bool) (back : World) →
-    plainOf roms (tookBy roms n k w g far fit back) ≡ plainOf noRoms (tookBy noRoms n k w g far fit back)
-by-roms roms n k w g true fit back = refl
-by-roms roms n k w g false true back = refl
-by-roms roms n k w g false false back = refl
+by-roms : (roms : Roms) (n k : ℕ) (w : World) (x : List ℕ) (g : Ring) (far fit : Bool) (back : World) (left : List ℕ) →
+    plainOf roms (tookBy roms n k w x g far fit back left) ≡ plainOf noRoms (tookBy noRoms n k w x g far fit back left)
+by-roms roms n k w x g true fit back left = refl
+by-roms roms n k w x g false true back left = refl
+by-roms roms n k w x g false false back left = refl
 
-pub back-roms : (roms : Roms) (n k : ℕ) (w : World) (g : Ring) →
-    plainOf roms (takeBack (both roms) n k (configIn roms w g)) ≡ plainOf noRoms (takeBack (both noRoms) n k (configIn noRoms w g))
+pub back-roms : (roms : Roms) (n k : ℕ) (w : World) (x : List ℕ) (g : Ring) →
+    plainOf roms (takeBack (both roms) n k (configIn roms w x g)) ≡ plainOf noRoms (takeBack (both noRoms) n k (configIn noRoms w x g))
 unfolding takeBack
-back-roms roms n k w g =
-    ap₂ (λ (fit : Bool) (back : World). plainOf roms (tookBy roms n k w g (ltb (g .hand) k) fit back)) (fit-roms roms n (g .bytes) (g .next) k w)
+back-roms roms n k w x g =
+    let far = ltb (g .hand) k in
+    let left = undoneSide (both noRoms) n (g .bytes) (g .next) k (g .hand) w x in
+    ap₂ (λ (fit : Bool) (back : World). plainOf roms (tookBy roms n k w x g far fit back (undoneSide (both roms) n (g .bytes) (g .next) k (g .hand) w x)))
+    (fit-roms roms n (g .bytes) (g .next) k w)
     (undone-roms roms n (g .bytes) (g .next) k w)
-    ∙ by-roms roms n k w g (ltb (g .hand) k) (allFit (both noRoms) n (g .bytes) (g .next) k w) (undone (both noRoms) n (g .bytes) (g .next) k w)
+    ∙ ap (λ (y : List ℕ). plainOf roms (tookBy roms n k w x g far (allFit (both noRoms) n (g .bytes) (g .next) k w) (undone (both noRoms) n (g .bytes) (g .next) k w) y))
+    (side-roms roms n (g .bytes) (g .next) k (g .hand) w x)
+    ∙ by-roms roms n k w x g far (allFit (both noRoms) n (g .bytes) (g .next) k w) (undone (both noRoms) n (g .bytes) (g .next) k w) left

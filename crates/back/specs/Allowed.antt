@@ -1,5 +1,6 @@
 -- The states that are run forth and back: good ones, with buffers of allowed lengths beside them.
-use Prim.Native.Nat.{_≤_}
+use Prim.Native.Nat.{ℕ, _*_, _≤_}
+use mathlib.Core.Path.{_≡_}
 use lib.ListN.{length}
 use Rattle.decide.specs.Lent.{Whole}
 use Rattle.step.specs.World.{World, Roms, lentIn}
@@ -11,3 +12,8 @@ pub record Allowed (roms : Roms) (w : World) : Type 0 where
   pub good : Good w
   pub whole : Whole (lentIn roms w)
   pub short : length (w .paper) ≤ 65536
+
+-- with a RAM of so many frames
+pub record Framed (roms : Roms) (frames : ℕ) (w : World) : Type 0 where
+  pub allowed : Allowed roms w
+  pub ram : length (w .ram) ≡ 4096 * frames

@@ -1,6 +1,12 @@
-// Taking back steps: one pass over the newest records that checks and writes nothing, one that undoes.
+// Taking back steps: one pass over the newest records that checks and writes nothing, one that undoes. A call that can be refused for other reasons asks the
+// first before it lets the second write.
+ghost use mathlib.Core.Path.{_≡_};
+ghost use Prim.Native.Nat.{_≤_};
+ghost use lib.ListN.{length};
+ghost use Rattle.ring.specs.Back.{done};
+ghost use Rattle.journal.specs.Journal.{Ready};
 ghost use Rattle.turn.specs.Buffers.{besideBack};
-ghost use Rattle.back.specs.Back.{Fits, TakeIs};
+ghost use Rattle.back.specs.Back.{Fits, howOf, askedOf, TakeIs};
 use crate::fitting::all_fit;
 use crate::undoing::undo_all;
 use journal::SLOT;
@@ -16,51 +22,56 @@ pub enum Answer {
     Bad,
 }
 
-// Where the answer is not Done the machine is the one that was given.
-pub struct Taken {
-    pub answer: Answer,
-    pub machine: Machine,
-}
-
-// Takes back `steps` steps. Where it is refused nothing is written.
-pub fn take_back(m: Machine, ram: &mut [u8], paper: &mut [u8], journal: &[u8], steps: u64) -> Taken
-    requires { ⌜ Fits (besideBack (now ram) (now paper) (now journal)) m ⌝ }
-    ensures { λ r. ⌜
-        TakeIs steps m (besideBack (now (ram .entry)) (now (paper .entry)) (now (journal .entry)))
-        r
-        (besideBack (now (ram .exit)) (now (paper .exit)) (now (journal .entry)))
-        ⌝ }
+// Can `steps` steps be taken back. RAM and paper are not lent: their lengths are enough.
+pub fn asked(m: Machine, ram: usize, paper: usize, journal: &[u8], steps: u64) -> Answer
+    requires { ⌜ paper ≤ 65536 ⌝ }
+    requires { ⌜ Ready (now journal) (m .journal) ⌝ }
+    ensures { λ r. ⌜ howOf r ≡ askedOf steps m ram paper (now (journal .entry)) ⌝ }
 {
     let mark = m.journal;
     let hand = mark.on_hand as usize;
     let next = mark.next_slot as usize;
     if (hand as u64) < steps {
-        return Taken {
-            answer: Answer::TooFar,
-            machine: m,
-        };
+        return Answer::TooFar;
     }
+    if !all_fit(m, ram, paper, journal, next, steps as usize) {
+        return Answer::Bad;
+    }
+    Answer::Done
+}
+
+// Takes back `steps` steps, which can be.
+pub fn take_back(
+    m: Machine,
+    ram: &mut [u8],
+    paper: &mut [u8],
+    journal: &[u8],
+    index: &mut [u8],
+    steps: u64,
+) -> Machine
+    requires { ⌜ Fits (besideBack (now ram) (now paper) (now journal) (now index)) m ⌝ }
+    requires { ⌜ askedOf steps m (length (now ram)) (length (now paper)) (now journal) ≡ done ⌝ }
+    ensures { λ r. ⌜
+        TakeIs steps m (besideBack (now (ram .entry)) (now (paper .entry)) (now (journal .entry)) (now (index .entry)))
+        r
+        (besideBack (now (ram .exit)) (now (paper .exit)) (now (journal .entry)) (now (index .exit)))
+        ⌝ }
+{
+    let mark = m.journal;
+    let hand = mark.on_hand as usize;
+    let next = mark.next_slot as usize;
     let k = steps as usize;
-    if !all_fit(m, ram.len(), paper.len(), journal, next, k) {
-        return Taken {
-            answer: Answer::Bad,
-            machine: m,
-        };
-    }
-    let before = undo_all(m, ram, paper, journal, next, k);
+    let before = undo_all(m, ram, paper, journal, index, next, hand, k);
     let cpu = before.cpu;
     let board = before.board;
     let fewer = (hand - k) as u32;
     let turned = ring::slot_back(journal.len() / SLOT, next, k) as u32;
-    Taken {
-        answer: Answer::Done,
-        machine: Machine {
-            cpu,
-            board,
-            journal: Journal {
-                on_hand: fewer,
-                next_slot: turned,
-            },
+    Machine {
+        cpu,
+        board,
+        journal: Journal {
+            on_hand: fewer,
+            next_slot: turned,
         },
     }
 }

@@ -1,10 +1,10 @@
 -- EVERY IMAGE THAT A DONE TAKE-BACK WRITES KEEPS THE RULES, and what is lent stays as long as it was: from any image that is accepted, and any journal, whatever
 -- steps its records are of or if they are of none.
-use Prim.Native.Nat.{ℕ, zero, suc, _+_, _*_, _^_, _≤_, _<_, max}
+use Prim.Native.Nat.{ℕ, zero, suc, _+_, _-_, _*_, _^_, _≤_, _<_, max}
 use native.Mathlib.Decide.{ℕ-discrete}
 use native.Mathlib.Nat.{sub-zero}
 use native.Mathlib.Omega.{arith}
-use mathlib.Core.Path.{_≡_, refl, sym, ap, subst, _∙_}
+use mathlib.Core.Path.{_≡_, refl, sym, ap, ap₂, subst, _∙_}
 use mathlib.Core.Bool.{true}
 use mathlib.Core.List.{List}
 use borrow.Author.Tests.{leb-true, le-leb}
@@ -13,9 +13,9 @@ use Rattle.word.specs.Lists.{Below}
 use Rattle.word.proofs.Cond.{both}
 use Rattle.ring.specs.Slots.{Ring, Sound, slot, slotBack, lowered}
 use Rattle.ring.specs.Back as ring
-use Rattle.ring.specs.Back.{undone, allFit}
+use Rattle.ring.specs.Back.{undone, undoneSide, allFit}
 use Rattle.ring.proofs.Slots.{back-below, back-on, slot-at, length-slot, sound-lowered}
-use Rattle.ring.proofs.Back.{undone-none}
+use Rattle.ring.proofs.Back.{undone-none, side-none}
 use Rattle.record.specs.Layout.{recordOf}
 use Rattle.journal.specs.Journal.{slotsOf, ringOf}
 use Rattle.state.specs.Layout.{bytesOf, machineOf}
@@ -27,13 +27,14 @@ use Rattle.good.proofs.Belows.{below-any}
 use Rattle.undo.specs.Undo.{View}
 use Rattle.undo.proofs.Laws.{cored}
 use Rattle.undo.proofs.Typed.{good-back}
+use Rattle.indexed.proofs.Lengths.{backward-long}
 use Rattle.turn.specs.Buffers.{Buffers}
 use Rattle.back.specs.Back as back
 use Rattle.back.specs.Back.{noRoms}
 use Rattle.answer.specs.declared.Reason.the-variants.{NoReason}
 use Rattle.answer.specs.declared.Answer.the-variants.{Done}
 use Rattle.answer.specs.Answer.{packedOf}
-use Rattle.answer.specs.Lent.{ramFits, paperFits, journalFits}
+use Rattle.answer.specs.Lent.{ramFits, paperFits, journalFits, indexFits}
 use Rattle.accepted.specs.After.{worldFrom, machineAfter}
 use Rattle.accepted.specs.Left.{Left, leftOf}
 use Rattle.backward.specs.Back.{doneBack, backLeaves}
@@ -65,6 +66,13 @@ module _ (n : ℕ) (journal : List ℕ) (next : ℕ) (w : World) where
   before-paper (suc k) =
       ap (λ (v : View). v .paper) (cored (recordOf (ring.recordAt (back.both noRoms) n journal next k)) (before k)) ∙ before-paper k
 
+  before-index : (k hand : ℕ) (x : List ℕ) → length (undoneSide (back.both noRoms) n journal next k hand w x) ≡ length x
+  unfolding undoneSide
+  before-index zero hand x = refl
+  before-index (suc k) hand x =
+      backward-long (back.base noRoms) (hand - k) (ring.recordAt (back.both noRoms) n journal next k) (before k) (undoneSide (back.both noRoms) n journal next k hand w x)
+      ∙ before-index k hand x
+
   module _ (room : 256 * n ≤ length journal) (place : next < max n 1) (small : Below 256 journal) (good : Good w) where
     before-good : (k : ℕ) → k ≤ n → allFit (back.both noRoms) n journal next k w ≡ true → Good (before k)
     unfolding undone allFit
@@ -83,6 +91,7 @@ pub record BackKept (left : Left) (b : Buffers) : Type 0 where
   pub ram-long : length (left .buffers .beside .ram) ≡ length (b .beside .ram)
   pub paper-long : length (left .buffers .beside .paper) ≡ length (b .beside .paper)
   pub journal-same : left .buffers .beside .journal ≡ b .beside .journal
+  pub index-long : length (left .buffers .beside .index) ≡ length (b .beside .index)
   pub image-bytes : Below 256 (left .buffers .image)
   pub ram-bytes : Below 256 (left .buffers .beside .ram)
   pub paper-bytes : Below 256 (left .buffers .beside .paper)
@@ -118,7 +127,7 @@ module _ (b : Buffers) (k : ℕ) (number : backNumber b k ≡ 0) where
         let s = start-sound in
         before-good n journal (start .next) (worldFrom b) (s .room) (s .place) journal-are
         (start-good (b .image) (b .beside .ram) (b .beside .paper) (length journal) (t .1 .1 .1 .0) image-are ram-are paper-are) k
-        (omega (arith, near, s .most)) (t .1 .1 .1 .1 .1)
+        (omega (arith, near, s .most)) (t .1 .1 .1 .1 .1 .0)
 
     done-kept : BackKept (doneLeaves b k) b
     done-kept =
@@ -131,6 +140,7 @@ module _ (b : Buffers) (k : ℕ) (number : backNumber b k ≡ 0) where
           ram-long = before-ram n journal (start .next) (worldFrom b) k;
           paper-long = long;
           journal-same = refl;
+          index-long = before-index n journal (start .next) (worldFrom b) k (start .hand) (b .beside .index);
           image-bytes = end-bytes older g n few older-good sound;
           ram-bytes = older-good .ram;
           paper-bytes = older-good .paper;
@@ -164,11 +174,12 @@ packed-fits b k = by (ℕ-discrete number 0)
 
 module _ (b : Buffers) (ram-fits : ramFits (length (b .beside .ram)) ≡ true) (paper-fits : paperFits (length (b .beside .paper)) ≡ true)
     (journal-fits : journalFits (length (b .beside .journal)) ≡ true)
-    (good : goodImage (b .image) (length (b .beside .paper)) (length (b .beside .journal)) ≡ true) where
+    (good : goodImage (b .image) (length (b .beside .paper)) (length (b .beside .journal)) ≡ true)
+    (each : indexFits (length (b .beside .ram)) (length (b .beside .index)) ≡ true) where
   none-done : backNumber b 0 ≡ 0
   unfolding allFit
   none-done =
-      number-0 b 0 .1 (ram-fits, (paper-fits, (journal-fits, (good, (le-leb 0 (machineOf (b .image) .journal .«on_hand») (omega arith), refl)))))
+      number-0 b 0 .1 (ram-fits, (paper-fits, (journal-fits, (good, (le-leb 0 (machineOf (b .image) .journal .«on_hand») (omega arith), (refl, each))))))
 
   pub back-none : Below 256 (b .image) → backLeaves b 0 ≡ leftOf (Done 0 NoReason) b
   back-none small =
@@ -180,7 +191,9 @@ module _ (b : Buffers) (ram-fits : ramFits (length (b .beside .ram)) ≡ true) (
       let same : lowered n 0 (ringOf mark journal) ≡ ringOf mark journal =
       λ i. record { bytes = journal; hand = sub-zero (mark .«on_hand») i; next = next i } in
       done-is b 0 none-done
-      ∙ ap (λ (s : World). doneBack 0 (b .beside) s (lowered n 0 (ringOf mark journal))) (undone-none (back.both noRoms) n journal (mark .«next_slot») w)
-      ∙ ap (doneBack 0 (b .beside) w) same
+      ∙ ap₂ (λ (s : World) (x : List ℕ). doneBack 0 (b .beside) s x (lowered n 0 (ringOf mark journal)))
+      (undone-none (back.both noRoms) n journal (mark .«next_slot») w)
+      (side-none (back.both noRoms) n journal (mark .«next_slot») w (mark .«on_hand») (b .beside .index))
+      ∙ ap (doneBack 0 (b .beside) w (b .beside .index)) same
       ∙ ap (λ (image : List ℕ). leftOf (Done 0 NoReason) (record { image = image; beside = b .beside }))
       (good-same (b .image) (length (b .beside .paper)) (length journal) small good)

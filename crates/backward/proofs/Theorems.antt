@@ -10,7 +10,7 @@ use lib.Dec.{leb}
 use lib.ListN.{length}
 use Rattle.ring.specs.Slots.{Ring, lowered}
 use Rattle.ring.specs.Run.{Config}
-use Rattle.ring.specs.Back.{How, Took, undone, allFit, done, tooFar, badRecord}
+use Rattle.ring.specs.Back.{How, Took, undone, undoneSide, allFit, done, tooFar, badRecord}
 use Rattle.ring.proofs.Slots.{by-leb}
 use Rattle.ring.proofs.Back.{back-far, back-bad, back-done}
 use Rattle.journal.specs.Journal.{slotsOf, ringOf}
@@ -19,81 +19,84 @@ use Rattle.rules.specs.Rules.{goodImage}
 use Rattle.turn.specs.Buffers.{Buffers}
 use Rattle.run.specs.Run.{configOf}
 use Rattle.back.specs.Back.{both, noRoms, backOf}
-use Rattle.answer.specs.declared.Refusal.the-variants.{Ram, Paper, Journal, Image}
+use Rattle.answer.specs.declared.Refusal.the-variants.{Ram, Paper, Journal, Image, Index}
+use Rattle.answer.specs.declared.Answer.the-variants.{Refused}
 use Rattle.answer.specs.declared.Answer.{Answer}
 use Rattle.answer.specs.declared.lent.Test.{Test}
 use Rattle.answer.specs.declared.lent.Test.the-variants.{Passed, Failed}
 use Rattle.answer.specs.Answer.{numberOf, reasonOf, stepsOf}
-use Rattle.answer.specs.Lent.{ramFits, paperFits, journalFits, andThen}
+use Rattle.answer.specs.Lent.{ramFits, paperFits, journalFits, indexFits, andThen}
 use Rattle.accepted.specs.After.{worldFrom}
 use Rattle.accepted.specs.Left.{Left, leftOf, leftBy, Unchanged}
 use Rattle.backward.specs.Back.{buffersTest, ruleTest, backTest, doneBack, leftHow, tookLeaves, triedBack, backLeaves}
 
--- ---- six tests in a row
+-- ---- seven tests in a row
 
--- what a number says of six tests, those of rows 1, 3, 4, 5, 7 and 8: it is that of the first that fails, and 0 where none does
-abbrev Says : ℕ → (a b c d e f : Bool) → Type 0
-Says zero a b c d e f = (a ≡ true) × ((b ≡ true) × ((c ≡ true) × ((d ≡ true) × ((e ≡ true) × (f ≡ true)))))
-Says (suc zero) a b c d e f = a ≡ false
-Says (suc (suc zero)) a b c d e f = ⊥
-Says (suc (suc (suc zero))) a b c d e f = (a ≡ true) × (b ≡ false)
-Says (suc (suc (suc (suc zero)))) a b c d e f = (a ≡ true) × ((b ≡ true) × (c ≡ false))
-Says (suc (suc (suc (suc (suc zero))))) a b c d e f = (a ≡ true) × ((b ≡ true) × ((c ≡ true) × (d ≡ false)))
-Says (suc (suc (suc (suc (suc (suc zero)))))) a b c d e f = ⊥
-Says (suc (suc (suc (suc (suc (suc (suc zero))))))) a b c d e f = (a ≡ true) × ((b ≡ true) × ((c ≡ true) × ((d ≡ true) × (e ≡ false))))
-Says (suc (suc (suc (suc (suc (suc (suc (suc zero)))))))) a b c d e f =
-    (a ≡ true) × ((b ≡ true) × ((c ≡ true) × ((d ≡ true) × ((e ≡ true) × (f ≡ false)))))
-Says (suc (suc (suc (suc (suc (suc (suc (suc (suc n))))))))) a b c d e f = ⊥
+-- what a number says of seven tests, those of rows 1, 3, 4, 5, 7, 8 and 10: it is that of the first that fails, and 0 where none does
+abbrev Says : ℕ → (a b c d e f g : Bool) → Type 0
+Says zero a b c d e f g = (a ≡ true) × ((b ≡ true) × ((c ≡ true) × ((d ≡ true) × ((e ≡ true) × ((f ≡ true) × (g ≡ true))))))
+Says (suc zero) a b c d e f g = a ≡ false
+Says (suc (suc zero)) a b c d e f g = ⊥
+Says (suc (suc (suc zero))) a b c d e f g = (a ≡ true) × (b ≡ false)
+Says (suc (suc (suc (suc zero)))) a b c d e f g = (a ≡ true) × ((b ≡ true) × (c ≡ false))
+Says (suc (suc (suc (suc (suc zero))))) a b c d e f g = (a ≡ true) × ((b ≡ true) × ((c ≡ true) × (d ≡ false)))
+Says (suc (suc (suc (suc (suc (suc zero)))))) a b c d e f g = ⊥
+Says (suc (suc (suc (suc (suc (suc (suc zero))))))) a b c d e f g = (a ≡ true) × ((b ≡ true) × ((c ≡ true) × ((d ≡ true) × (e ≡ false))))
+Says (suc (suc (suc (suc (suc (suc (suc (suc zero)))))))) a b c d e f g = (a ≡ true) × ((b ≡ true) × ((c ≡ true) × ((d ≡ true) × ((e ≡ true) × (f ≡ false)))))
+Says (suc (suc (suc (suc (suc (suc (suc (suc (suc zero))))))))) a b c d e f g = ⊥
+Says (suc (suc (suc (suc (suc (suc (suc (suc (suc (suc zero)))))))))) a b c d e f g = (a ≡ true) × ((b ≡ true) × ((c ≡ true) × ((d ≡ true) × ((e ≡ true) × ((f ≡ true) × (g ≡ false))))))
+Says (suc (suc (suc (suc (suc (suc (suc (suc (suc (suc (suc n))))))))))) a b c d e f g = ⊥
 
 abbrev testOf : (a b c d : Bool) → Test
 testOf a b c d = andThen (cond a (cond b (cond c Passed (Failed Journal)) (Failed Paper)) (Failed Ram)) (cond d Passed (Failed Image))
 
 -- the number of what the first four tests let through
-abbrev triedNumber : Bool → Bool → ℕ
-triedNumber e f = cond e (cond f 0 8) 7
+abbrev triedNumber : Bool → Bool → Bool → ℕ
+triedNumber e f g = cond e (cond f (cond g 0 10) 8) 7
 
 -- which tests led to which number
 module _ (tried : Left) (buffers : Buffers) where
   abbrev numbered : Test → ℕ
   numbered t = numberOf (leftBy t tried buffers .answer)
 
-  by-number : (a b c d e f : Bool) → numberOf (tried .answer) ≡ triedNumber e f → Says (numbered (testOf a b c d)) a b c d e f
-  by-number true true true true true true is =
-      subst (λ (n : ℕ). Says n true true true true true true) (sym is) (refl, (refl, (refl, (refl, (refl, refl)))))
-  by-number true true true true true false is =
-      subst (λ (n : ℕ). Says n true true true true true false) (sym is) (refl, (refl, (refl, (refl, (refl, refl)))))
-  by-number true true true true false f is = subst (λ (n : ℕ). Says n true true true true false f) (sym is) (refl, (refl, (refl, (refl, refl))))
-  by-number true true true false e f is = (refl, (refl, (refl, refl)))
-  by-number true true false d e f is = (refl, (refl, refl))
-  by-number true false c d e f is = (refl, refl)
-  by-number false b c d e f is = refl
+  by-number : (a b c d e f g : Bool) → numberOf (tried .answer) ≡ triedNumber e f g → Says (numbered (testOf a b c d)) a b c d e f g
+  by-number true true true true true true true is = subst (λ (n : ℕ). Says n true true true true true true true) (sym is) (refl, (refl, (refl, (refl, (refl, (refl, refl))))))
+  by-number true true true true true true false is = subst (λ (n : ℕ). Says n true true true true true true false) (sym is) (refl, (refl, (refl, (refl, (refl, (refl, refl))))))
+  by-number true true true true true false g is = subst (λ (n : ℕ). Says n true true true true true false g) (sym is) (refl, (refl, (refl, (refl, (refl, refl)))))
+  by-number true true true true false f g is = subst (λ (n : ℕ). Says n true true true true false f g) (sym is) (refl, (refl, (refl, (refl, refl))))
+  by-number true true true false e f g is = (refl, (refl, (refl, refl)))
+  by-number true true false d e f g is = (refl, (refl, refl))
+  by-number true false c d e f g is = (refl, refl)
+  by-number false b c d e f g is = refl
 
   -- and back
-  by-tests : (n : ℕ) (a b c d e f : Bool) → numberOf (tried .answer) ≡ triedNumber e f → Says n a b c d e f → numbered (testOf a b c d) ≡ n
-  by-tests zero a b c d e f is s = rw (s .0, s .1 .0, s .1 .1 .0, s .1 .1 .1 .0) (is ∙ rw (s .1 .1 .1 .1 .0, s .1 .1 .1 .1 .1))
-  by-tests (suc zero) a b c d e f is s = rw s
-  by-tests (suc (suc zero)) a b c d e f is s = absurd s
-  by-tests (suc (suc (suc zero))) a b c d e f is s = rw (s .0, s .1)
-  by-tests (suc (suc (suc (suc zero)))) a b c d e f is s = rw (s .0, s .1 .0, s .1 .1)
-  by-tests (suc (suc (suc (suc (suc zero))))) a b c d e f is s = rw (s .0, s .1 .0, s .1 .1 .0, s .1 .1 .1)
-  by-tests (suc (suc (suc (suc (suc (suc zero)))))) a b c d e f is s = absurd s
-  by-tests (suc (suc (suc (suc (suc (suc (suc zero))))))) a b c d e f is s =
-      rw (s .0, s .1 .0, s .1 .1 .0, s .1 .1 .1 .0) (is ∙ rw (s .1 .1 .1 .1))
-  by-tests (suc (suc (suc (suc (suc (suc (suc (suc zero)))))))) a b c d e f is s =
-      rw (s .0, s .1 .0, s .1 .1 .0, s .1 .1 .1 .0) (is ∙ rw (s .1 .1 .1 .1 .0, s .1 .1 .1 .1 .1))
-  by-tests (suc (suc (suc (suc (suc (suc (suc (suc (suc n))))))))) a b c d e f is s = absurd s
+  by-tests : (n : ℕ) (a b c d e f g : Bool) → numberOf (tried .answer) ≡ triedNumber e f g → Says n a b c d e f g → numbered (testOf a b c d) ≡ n
+  by-tests zero a b c d e f g is s = rw (s .0, s .1 .0, s .1 .1 .0, s .1 .1 .1 .0) (is ∙ rw (s .1 .1 .1 .1 .0, s .1 .1 .1 .1 .1 .0, s .1 .1 .1 .1 .1 .1))
+  by-tests (suc zero) a b c d e f g is s = rw s
+  by-tests (suc (suc zero)) a b c d e f g is s = absurd s
+  by-tests (suc (suc (suc zero))) a b c d e f g is s = rw (s .0, s .1)
+  by-tests (suc (suc (suc (suc zero)))) a b c d e f g is s = rw (s .0, s .1 .0, s .1 .1)
+  by-tests (suc (suc (suc (suc (suc zero))))) a b c d e f g is s = rw (s .0, s .1 .0, s .1 .1 .0, s .1 .1 .1)
+  by-tests (suc (suc (suc (suc (suc (suc zero)))))) a b c d e f g is s = absurd s
+  by-tests (suc (suc (suc (suc (suc (suc (suc zero))))))) a b c d e f g is s = rw (s .0, s .1 .0, s .1 .1 .0, s .1 .1 .1 .0) (is ∙ rw (s .1 .1 .1 .1))
+  by-tests (suc (suc (suc (suc (suc (suc (suc (suc zero)))))))) a b c d e f g is s = rw (s .0, s .1 .0, s .1 .1 .0, s .1 .1 .1 .0) (is ∙ rw (s .1 .1 .1 .1 .0, s .1 .1 .1 .1 .1))
+  by-tests (suc (suc (suc (suc (suc (suc (suc (suc (suc zero))))))))) a b c d e f g is s = absurd s
+  by-tests (suc (suc (suc (suc (suc (suc (suc (suc (suc (suc zero)))))))))) a b c d e f g is s = rw (s .0, s .1 .0, s .1 .1 .0, s .1 .1 .1 .0) (is ∙ rw (s .1 .1 .1 .1 .0, s .1 .1 .1 .1 .1 .0, s .1 .1 .1 .1 .1 .1))
+  by-tests (suc (suc (suc (suc (suc (suc (suc (suc (suc (suc (suc n))))))))))) a b c d e f g is s = absurd s
 
-at-most : (n : ℕ) (a b c d e f : Bool) → Says n a b c d e f → n ≤ 8
-at-most zero a b c d e f s = omega arith
-at-most (suc zero) a b c d e f s = omega arith
-at-most (suc (suc zero)) a b c d e f s = absurd s
-at-most (suc (suc (suc zero))) a b c d e f s = omega arith
-at-most (suc (suc (suc (suc zero)))) a b c d e f s = omega arith
-at-most (suc (suc (suc (suc (suc zero))))) a b c d e f s = omega arith
-at-most (suc (suc (suc (suc (suc (suc zero)))))) a b c d e f s = absurd s
-at-most (suc (suc (suc (suc (suc (suc (suc zero))))))) a b c d e f s = omega arith
-at-most (suc (suc (suc (suc (suc (suc (suc (suc zero)))))))) a b c d e f s = omega arith
-at-most (suc (suc (suc (suc (suc (suc (suc (suc (suc n))))))))) a b c d e f s = absurd s
+at-most : (n : ℕ) (a b c d e f g : Bool) → Says n a b c d e f g → n ≤ 10
+at-most zero a b c d e f g s = omega arith
+at-most (suc zero) a b c d e f g s = omega arith
+at-most (suc (suc zero)) a b c d e f g s = absurd s
+at-most (suc (suc (suc zero))) a b c d e f g s = omega arith
+at-most (suc (suc (suc (suc zero)))) a b c d e f g s = omega arith
+at-most (suc (suc (suc (suc (suc zero))))) a b c d e f g s = omega arith
+at-most (suc (suc (suc (suc (suc (suc zero)))))) a b c d e f g s = absurd s
+at-most (suc (suc (suc (suc (suc (suc (suc zero))))))) a b c d e f g s = omega arith
+at-most (suc (suc (suc (suc (suc (suc (suc (suc zero)))))))) a b c d e f g s = omega arith
+at-most (suc (suc (suc (suc (suc (suc (suc (suc (suc zero))))))))) a b c d e f g s = absurd s
+at-most (suc (suc (suc (suc (suc (suc (suc (suc (suc (suc zero)))))))))) a b c d e f g s = omega arith
+at-most (suc (suc (suc (suc (suc (suc (suc (suc (suc (suc (suc n))))))))))) a b c d e f g s = absurd s
 
 -- ---- a refusal
 
@@ -101,10 +104,16 @@ unchanged-took : (k : ℕ) (buffers : Buffers) (t : Took (both noRoms)) →
     let left = tookLeaves k buffers t in (numberOf (left .answer) ≡ 0 → ⊥) → Unchanged left buffers
 unchanged-took k buffers t h = by (t .answer) h
   where
-    by : (how : How) →
-        let left = leftHow how (doneBack k (buffers .beside) (t .config .state) (t .config .ring)) buffers in
+    by-index : (each : Bool) →
+        let left = cond each (doneBack k (buffers .beside) (t .config .state) (t .config .side) (t .config .ring)) (leftOf (Refused Index) buffers) in
         (numberOf (left .answer) ≡ 0 → ⊥) → Unchanged left buffers
-    by done h = absurd (h refl)
+    by-index true h = absurd (h refl)
+    by-index false h = record { same = refl; no-steps = refl; no-reason = refl }
+
+    by : (how : How) →
+        let left = leftHow how (doneBack k (buffers .beside) (t .config .state) (t .config .side) (t .config .ring)) buffers in
+        (numberOf (left .answer) ≡ 0 → ⊥) → Unchanged left buffers
+    by done h = by-index (indexFits (length (buffers .beside .ram)) (length (buffers .beside .index))) h
     by tooFar h = record { same = refl; no-steps = refl; no-reason = refl }
     by badRecord h = record { same = refl; no-steps = refl; no-reason = refl }
 
@@ -134,7 +143,7 @@ module _ (buffers : Buffers) (k : ℕ) where
   abbrev mark : Ring
   mark = ringOf (machineOf (buffers .image) .journal) journal
 
-  -- rows 1, 3, 4, 5, 7 and 8 of the numbers, as tests
+  -- rows 1, 3, 4, 5, 7, 8 and 10 of the numbers, as tests
   abbrev row-1 : Bool
   row-1 = ramFits (length (buffers .beside .ram))
 
@@ -155,38 +164,46 @@ module _ (buffers : Buffers) (k : ℕ) where
   abbrev row-8 : Bool
   row-8 = allFit (both noRoms) n journal (mark .next) k (worldFrom buffers)
 
-  -- the state with the k newest records undone, and the ring with them given up
+  -- sixteen bytes of index for each frame of RAM
+  abbrev row-10 : Bool
+  row-10 = indexFits (length (buffers .beside .ram)) (length (buffers .beside .index))
+
+  -- the state and the index with the k newest records undone, and the ring with them given up
   abbrev pub doneLeaves : Left
-  doneLeaves = doneBack k (buffers .beside) (undone (both noRoms) n journal (mark .next) k (worldFrom buffers)) (lowered n k mark)
+  doneLeaves =
+      doneBack k (buffers .beside) (undone (both noRoms) n journal (mark .next) k (worldFrom buffers))
+      (undoneSide (both noRoms) n journal (mark .next) k (mark .hand) (worldFrom buffers) (buffers .beside .index)) (lowered n k mark)
 
   abbrev here : Config (both noRoms .forward)
   here = configOf noRoms (machineOf (buffers .image)) (buffers .beside)
 
-  tried-done : row-7 ≡ true → row-8 ≡ true → tried ≡ doneLeaves
+  tried-done : row-7 ≡ true → row-8 ≡ true → row-10 ≡ true → tried ≡ doneLeaves
   unfolding triedBack
-  tried-done near fit = rw (back-done (both noRoms) n here k (leb-true k (mark .hand) near) fit)
+  tried-done near fit each = rw (back-done (both noRoms) n here k (leb-true k (mark .hand) near) fit, each)
 
-  tried-number : numberOf (tried .answer) ≡ triedNumber row-7 row-8
+  tried-number : numberOf (tried .answer) ≡ triedNumber row-7 row-8 row-10
   unfolding triedBack
   tried-number =
       by-leb k (mark .hand)
-      (λ l. rw (le-leb k (mark .hand) l) (near l row-8 refl))
+      (λ l. rw (le-leb k (mark .hand) l) (near l row-8 refl row-10 refl))
       (λ l. rw (lt-leb k (mark .hand) l, back-far (both noRoms) n here k l))
     where
-      near : k ≤ mark .hand → (f : Bool) → row-8 ≡ f → numberOf (tookLeaves k buffers (backOf k (machineOf (buffers .image)) (buffers .beside)) .answer) ≡ cond row-8 0 8
-      near l true e = rw (e, back-done (both noRoms) n here k l e)
-      near l false e = rw (e, back-bad (both noRoms) n here k l e)
+      near : k ≤ mark .hand → (f : Bool) → row-8 ≡ f → (g : Bool) → row-10 ≡ g →
+          numberOf (tookLeaves k buffers (backOf k (machineOf (buffers .image)) (buffers .beside)) .answer) ≡ cond row-8 (cond row-10 0 10) 8
+      near l true e true x = rw (e, back-done (both noRoms) n here k l e, x)
+      near l true e false x = rw (e, back-done (both noRoms) n here k l e, x)
+      near l false e g x = rw (e, back-bad (both noRoms) n here k l e)
 
-  says : Says backNumber row-1 row-3 row-4 row-5 row-7 row-8
+  says : Says backNumber row-1 row-3 row-4 row-5 row-7 row-8 row-10
   unfolding backLeaves buffersTest ruleTest
-  says = by-number tried buffers row-1 row-3 row-4 row-5 row-7 row-8 tried-number
+  says = by-number tried buffers row-1 row-3 row-4 row-5 row-7 row-8 row-10 tried-number
 
   -- each number is answered exactly when its row fails and no lower row does
-  exact : (number : ℕ) → (backNumber ≡ number) ↔ Says number row-1 row-3 row-4 row-5 row-7 row-8
+  exact : (number : ℕ) → (backNumber ≡ number) ↔ Says number row-1 row-3 row-4 row-5 row-7 row-8 row-10
   unfolding backLeaves buffersTest ruleTest
   exact number = (
-    λ h. subst (λ (j : ℕ). Says j row-1 row-3 row-4 row-5 row-7 row-8) h says,
-    λ h. by-tests tried buffers number row-1 row-3 row-4 row-5 row-7 row-8 tried-number h,
+    λ h. subst (λ (j : ℕ). Says j row-1 row-3 row-4 row-5 row-7 row-8 row-10) h says,
+    λ h. by-tests tried buffers number row-1 row-3 row-4 row-5 row-7 row-8 row-10 tried-number h,
   )
 
   pub number-1 : (backNumber ≡ 1) ↔ (row-1 ≡ false)
@@ -207,7 +224,12 @@ module _ (buffers : Buffers) (k : ℕ) where
   pub number-8 : (backNumber ≡ 8) ↔ ((row-1 ≡ true) × ((row-3 ≡ true) × ((row-4 ≡ true) × ((row-5 ≡ true) × ((row-7 ≡ true) × (row-8 ≡ false))))))
   number-8 = exact 8
 
-  pub number-0 : (backNumber ≡ 0) ↔ ((row-1 ≡ true) × ((row-3 ≡ true) × ((row-4 ≡ true) × ((row-5 ≡ true) × ((row-7 ≡ true) × (row-8 ≡ true))))))
+  -- document 02, L6
+  pub number-10 : (backNumber ≡ 10)
+      ↔ ((row-1 ≡ true) × ((row-3 ≡ true) × ((row-4 ≡ true) × ((row-5 ≡ true) × ((row-7 ≡ true) × ((row-8 ≡ true) × (row-10 ≡ false)))))))
+  number-10 = exact 10
+
+  pub number-0 : (backNumber ≡ 0) ↔ ((row-1 ≡ true) × ((row-3 ≡ true) × ((row-4 ≡ true) × ((row-5 ≡ true) × ((row-7 ≡ true) × ((row-8 ≡ true) × (row-10 ≡ true)))))))
   number-0 = exact 0
 
   -- and no other number: no ROM and no range is tested, and no address asked for
@@ -217,8 +239,11 @@ module _ (buffers : Buffers) (k : ℕ) where
   pub never-6 : backNumber ≡ 6 → ⊥
   never-6 = exact 6 .0
 
-  pub no-other : backNumber ≤ 8
-  no-other = at-most backNumber row-1 row-3 row-4 row-5 row-7 row-8 says
+  pub never-9 : backNumber ≡ 9 → ⊥
+  never-9 = exact 9 .0
+
+  pub no-other : backNumber ≤ 10
+  no-other = at-most backNumber row-1 row-3 row-4 row-5 row-7 row-8 row-10 says
 
   -- a refusal leaves every byte as it was
   pub refused-same : (backNumber ≡ 0 → ⊥) → Unchanged left buffers
@@ -237,7 +262,7 @@ module _ (buffers : Buffers) (k : ℕ) where
   unfolding backLeaves
   done-is e =
       let h = number-0 .0 e in
-      ap (λ (t : Test). leftBy t tried buffers) (passed e) ∙ tried-done (h .1 .1 .1 .1 .0) (h .1 .1 .1 .1 .1)
+      ap (λ (t : Test). leftBy t tried buffers) (passed e) ∙ tried-done (h .1 .1 .1 .1 .0) (h .1 .1 .1 .1 .1 .0) (h .1 .1 .1 .1 .1 .1)
 
   -- "A done take-back of k reports k and no reason"
   pub done-steps : backNumber ≡ 0 → (stepsOf (left .answer) ≡ k) × (reasonOf (left .answer) ≡ 0)

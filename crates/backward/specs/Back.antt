@@ -1,25 +1,23 @@
 -- Document 01, "Running back", with its refusals: what take-back answers, and every byte that it leaves in what is lent. The journal is only read.
-use Prim.Native.Nat.{ℕ}
+use Prim.Native.Nat.{ℕ, _%_, _≤_}
 use mathlib.Core.Bool.{cond}
 use mathlib.Core.List.{List}
 use mathlib.Core.Path.{_≡_}
 use lib.ListN.{length}
 use Rattle.ring.specs.Slots.{Ring}
 use Rattle.ring.specs.Back.{How, Took, done, tooFar, badRecord}
-use Rattle.state.specs.Layout.{bytesOf, machineOf}
+use Rattle.journal.specs.Journal.{Ready}
+use Rattle.state.specs.Layout.{machineOf}
 use Rattle.state.specs.declared.machine.Machine.{Machine}
 use Rattle.rules.specs.Rules.{goodImage}
 use Rattle.step.specs.World.{World}
 use Rattle.turn.specs.Buffers.{Beside, Buffers}
 use Rattle.back.specs.Back.{both, noRoms, backOf}
-use Rattle.back.specs.declared.Answer as back
-use Rattle.back.specs.declared.Answer.the-variants as how
-use Rattle.answer.specs.Lent.{ramFits, paperFits, journalFits, andThen}
+use Rattle.answer.specs.Lent.{ramFits, paperFits, journalFits, indexFits, andThen}
 use Rattle.accepted.specs.After.{buffersAfter}
 use Rattle.accepted.specs.Left.{Left, leftOf, leftBy}
 use Rattle.answer.specs.declared.Reason.the-variants.{NoReason}
-use Rattle.answer.specs.declared.Refusal.the-variants.{Ram, Paper, Journal, Image, TooFar, BadRecord}
-use Rattle.answer.specs.declared.Answer.{Answer}
+use Rattle.answer.specs.declared.Refusal.the-variants.{Ram, Paper, Journal, Image, TooFar, BadRecord, Index}
 use Rattle.answer.specs.declared.Answer.the-variants.{Done, Refused}
 use Rattle.answer.specs.declared.lent.Test.{Test}
 use Rattle.answer.specs.declared.lent.Test.the-variants.{Passed, Failed}
@@ -45,17 +43,17 @@ backTest b = andThen (besideBackTest (b .beside)) (ruleTest b)
 
 -- "A done take-back of k reports k and no reason", and leaves the state of k steps before, with the ring's on hand and next slot: taking back "leaves the journal's
 -- bytes", which are the ring's
-abbrev pub doneBack : ℕ → Beside → World → Ring → Left
-doneBack k b w g = leftOf (Done k NoReason) (buffersAfter b w g)
+abbrev pub doneBack : ℕ → Beside → World → List ℕ → Ring → Left
+doneBack k b w index g = leftOf (Done k NoReason) (buffersAfter b w index g)
 
--- rows 7 and 8, which leave every byte
+-- rows 7 and 8, then 10: the index's length (document 02, L6). Each leaves every byte
 abbrev pub leftHow : How → Left → Buffers → Left
-leftHow done back b = back
+leftHow done back b = cond (indexFits (length (b .beside .ram)) (length (b .beside .index))) back (leftOf (Refused Index) b)
 leftHow tooFar back b = leftOf (Refused TooFar) b
 leftHow badRecord back b = leftOf (Refused BadRecord) b
 
 abbrev pub tookLeaves : ℕ → Buffers → Took (both noRoms) → Left
-tookLeaves k b t = leftHow (t .answer) (doneBack k (b .beside) (t .config .state) (t .config .ring)) b
+tookLeaves k b t = leftHow (t .answer) (doneBack k (b .beside) (t .config .state) (t .config .side) (t .config .ring)) b
 
 unfoldable pub triedBack : Buffers → ℕ → Left
 triedBack b k = tookLeaves k b (backOf k (machineOf (b .image)) (b .beside))
@@ -71,18 +69,8 @@ backLeaves b k = leftBy (backTest b) (triedBack b k) b
 abbrev pub ruleLeaves : Buffers → ℕ → Left
 ruleLeaves b k = leftBy (ruleTest b) (triedBack b k) b
 
--- what is answered and the image, by how taking back on a decoded machine ended and the machine that it gave
-
-abbrev pub answerBack : back.Answer → ℕ → Answer
-answerBack how.Done k = Done k NoReason
-answerBack how.TooFar k = Refused TooFar
-answerBack how.Bad k = Refused BadRecord
-
-abbrev pub imageBack : back.Answer → Machine → List ℕ → List ℕ
-imageBack how.Done after image = bytesOf after
-imageBack how.TooFar after image = image
-imageBack how.Bad after image = image
-
-pub record ToldIs (ended : back.Answer) (after : Machine) (before : List ℕ) (k : ℕ) (answer : Answer) (image : List ℕ) : Type 0 where
-  pub answer-is : answer ≡ answerBack ended k
-  pub image-is : image ≡ imageBack ended after before
+-- what rows 1 to 5 leave of what is lent
+pub record Judged (b : Beside) (m : Machine) : Type 0 where
+  pub whole-frames : length (b .ram) % 4096 ≡ 0
+  pub short : length (b .paper) ≤ 65536
+  pub ready : Ready (b .journal) (m .journal)

@@ -1,54 +1,61 @@
-// The step that last changed a word of RAM: who it is, and standing just before it.
+// The step that last changed a word of RAM: who it is, and what the index has of the word's frame.
+use frames::Entry;
 use inquiry::reading::instruction;
 use message::blame::Culprit;
-use seek::Sought;
+use message::blame::Frame;
+use message::blame::frame_changed;
+use message::blame::frame_kept;
+use word::big::word_at;
 
-// The offset of a word in RAM.
-pub enum Word {
-    At(u32),
-    Nowhere,
-}
-
-pub fn word_of_ram(address: u64, ram: usize) -> Word {
-    if address < 0x2000_0000 {
-        return Word::Nowhere;
-    }
-    let place = address - 0x2000_0000;
-    if 0x100_0000 <= place {
-        return Word::Nowhere;
-    }
-    if ram as u64 <= place {
-        return Word::Nowhere;
-    }
-    if place % 4 != 0 {
-        return Word::Nowhere;
-    }
-    Word::At(place as u32)
-}
-
-pub fn sought(image: &[u8], ram: &[u8], journal: &[u8], place: u32) -> Sought {
-    let on_hand = (image::word(image, image::ON_HAND) % 0x1_0000_0000) as u32;
-    let next_slot = (image::word(image, image::NEXT_SLOT) % 0x1_0000_0000) as u32;
-    seek::last_change(ram, journal, on_hand, next_slot, place)
-}
-
-// The step that last changed the word at `place`, and whether the machine is to stay before it.
+// The step that last changed the word at `address`, and whether the machine is to stay before it.
 pub struct Step {
-    pub place: u32,
-    pub ago: u32,
-    pub old: u32,
-    pub new: u32,
+    pub address: u64,
+    pub ago: u64,
+    pub clock: u64,
+    pub old: u64,
+    pub new: u64,
     pub stay: bool,
 }
 
-// What is seen of it while the machine stands just before it.
+// From what last_write wrote: clock high, clock low, old word, new word.
+pub fn read_step(told: &[u8; 16], address: u64, ago: u64, stay: bool) -> Step {
+    Step {
+        address,
+        ago,
+        clock: word_at(told, 0) as u64 * 0x1_0000_0000 + word_at(told, 4) as u64,
+        old: word_at(told, 8) as u64,
+        new: word_at(told, 12) as u64,
+        stay,
+    }
+}
+
+// Of an address in RAM; any other is refused before it comes here.
+fn entry(index: &[u8], address: u64) -> Entry {
+    let frame = (address / 0x1000 % 0x1000) as usize;
+    if index.len() < 16 * frame + 16 {
+        return Entry::Nothing;
+    }
+    frames::entry_at(index, frame)
+}
+
+// The last change in the frame of a word.
+pub fn in_frame(index: &[u8], address: u64) -> Frame {
+    let begins = address / 0x1000 * 0x1000;
+    let entry = entry(index, address);
+    match entry {
+        Entry::At(clock) => frame_changed(begins, clock),
+        Entry::Nothing => frame_kept(begins),
+    }
+}
+
+// What is seen of the step while the machine stands just before it.
 pub fn seen(image: &[u8], execution: &[u8], bootstrap: &[u8], ram: &[u8], step: Step) -> Culprit {
     Culprit {
-        address: step.place as u64 + 0x2000_0000,
-        ago: step.ago as u64,
-        old: step.old as u64,
-        new: step.new as u64,
-        clock: std::num::wrapping_add_u64(image::clock(image), 1),
+        address: step.address,
+        ago: step.ago,
+        old: step.old,
+        new: step.new,
+        clock: step.clock,
         pc: image::word(image, image::PC),
         instruction: instruction(image, execution, bootstrap, ram),
     }

@@ -2,31 +2,89 @@
 mod culprit; // the step that changed a word
 
 use crate::culprit::Step;
-use crate::culprit::Word;
+use crate::culprit::in_frame;
+use crate::culprit::read_step;
 use crate::culprit::seen;
-use crate::culprit::sought;
-use crate::culprit::word_of_ram;
 use answer::Answer;
+use answer::Refusal;
 use answer::packed;
 use backward::take_back;
 use forward::run;
 use inquiry::reading::word_at;
-use seek::Sought;
+use lastwrite::last_write;
+use message::blame::Culprit;
 use session::work::Asked;
 use session::work::Worked;
 
-fn unchanged(image: &[u8], ram: &[u8], place: u32) -> Worked {
-    let holds = word_at(ram, place as usize);
-    let on_hand = image::word(image, image::ON_HAND);
-    Worked::NoChange(place as u64 + 0x2000_0000, holds, on_hand)
-}
-
-// Document 01's number; 0 where nothing is refused.
+// The number of documents 01 and 02; 0 where nothing is refused.
 fn refused(answer: Answer) -> u64 {
     packed(answer) % 0x100
 }
 
-// The machine is stood just before the step. Unless it stays there it goes forward again by as many steps, which leaves everything as it was (demand 3).
+fn ran(
+    image: &mut [u8],
+    execution: &[u8],
+    bootstrap: &[u8],
+    ram: &mut [u8],
+    paper: &mut [u8],
+    journal: &mut [u8],
+    index: &mut [u8],
+    steps: u64,
+) -> u64 {
+    refused(run(
+        image,
+        execution,
+        bootstrap,
+        ram,
+        paper,
+        journal,
+        index,
+        steps,
+        0,
+    ))
+}
+
+fn not_told(refusal: Refusal, ram: usize) -> Worked {
+    match refusal {
+        Refusal::Word => Worked::NoWord(ram as u64),
+        _ => Worked::Refused(refused(Answer::Refused(refusal))),
+    }
+}
+
+fn unchanged(image: &[u8], ram: &[u8], index: &[u8], address: u64) -> Worked {
+    let holds = word_at(ram, (address % 0x100_0000) as usize);
+    let on_hand = image::word(image, image::ON_HAND);
+    Worked::NoChange(address, holds, on_hand, in_frame(index, address))
+}
+
+// The machine goes forward again by as many steps, which leaves everything as it was (demand 3).
+fn again(
+    image: &mut [u8],
+    execution: &[u8],
+    bootstrap: &[u8],
+    ram: &mut [u8],
+    paper: &mut [u8],
+    journal: &mut [u8],
+    index: &mut [u8],
+    culprit: Culprit,
+) -> Worked {
+    let number = ran(
+        image,
+        execution,
+        bootstrap,
+        ram,
+        paper,
+        journal,
+        index,
+        culprit.ago,
+    );
+    if number != 0 {
+        return Worked::Refused(number);
+    }
+    Worked::Found(culprit, in_frame(index, culprit.address))
+}
+
+// The machine is stood just before the step, and stays there if it is to.
 fn stand(
     image: &mut [u8],
     execution: &[u8],
@@ -34,50 +92,86 @@ fn stand(
     ram: &mut [u8],
     paper: &mut [u8],
     journal: &mut [u8],
+    index: &mut [u8],
     step: Step,
 ) -> Worked {
-    let ago = step.ago as u64;
-    let number = refused(take_back(image, ram, paper, journal, ago));
+    let number = refused(take_back(image, ram, paper, journal, index, step.ago));
     if number != 0 {
         return Worked::Refused(number);
     }
     let culprit = seen(image, execution, bootstrap, ram, step);
     if step.stay {
-        return Worked::Stood(culprit);
+        return Worked::Stood(culprit, in_frame(index, step.address));
     }
-    let number = refused(run(image, execution, bootstrap, ram, paper, journal, ago, 0));
-    if number != 0 {
-        return Worked::Refused(number);
-    }
-    Worked::Found(culprit)
+    again(
+        image,
+        execution,
+        bootstrap,
+        ram,
+        paper,
+        journal,
+        index,
+        culprit,
+    )
 }
 
-// The step that the journal names.
-fn search(
+// `step` is what last_write told: 0 steps ago is none on hand.
+fn named(
     image: &mut [u8],
     execution: &[u8],
     bootstrap: &[u8],
     ram: &mut [u8],
     paper: &mut [u8],
     journal: &mut [u8],
-    place: u32,
-    stay: bool,
+    index: &mut [u8],
+    step: Step,
 ) -> Worked {
-    let answer = sought(image, ram, journal, place);
-    let Sought::At(ago, old, new) = answer else {
-        return unchanged(image, ram, place);
-    };
-    let step = Step {
-        place,
-        ago,
-        old,
-        new,
-        stay,
-    };
-    stand(image, execution, bootstrap, ram, paper, journal, step)
+    if step.ago == 0 {
+        return unchanged(image, ram, index, step.address);
+    }
+    stand(
+        image,
+        execution,
+        bootstrap,
+        ram,
+        paper,
+        journal,
+        index,
+        step,
+    )
 }
 
-// A run of no steps judges the machine before it is searched.
+fn told(
+    image: &mut [u8],
+    execution: &[u8],
+    bootstrap: &[u8],
+    ram: &mut [u8],
+    paper: &mut [u8],
+    journal: &mut [u8],
+    index: &mut [u8],
+    asked: Asked,
+) -> Worked {
+    let mut told = [0u8; 16];
+    let answer = last_write(image, ram, paper, journal, index, asked.address, &mut told);
+    match answer {
+        Answer::Refused(refusal) => not_told(refusal, ram.len()),
+        Answer::Done(ago, _) => {
+            let step = read_step(&told, asked.address, ago as u64, asked.stay);
+            named(
+                image,
+                execution,
+                bootstrap,
+                ram,
+                paper,
+                journal,
+                index,
+                step,
+            )
+        }
+    }
+}
+
+// A run of no steps judges the machine, its ROMs too, before it is asked.
 pub fn blame(
     image: &mut [u8],
     execution: &[u8],
@@ -85,25 +179,21 @@ pub fn blame(
     ram: &mut [u8],
     paper: &mut [u8],
     journal: &mut [u8],
+    index: &mut [u8],
     asked: Asked,
 ) -> Worked {
-    let word = word_of_ram(asked.address, ram.len());
-    let Word::At(place) = word else {
-        return Worked::NoWord(ram.len() as u64);
-    };
-    let number = refused(run(image, execution, bootstrap, ram, paper, journal, 0, 0));
+    let number = ran(image, execution, bootstrap, ram, paper, journal, index, 0);
     if number != 0 {
         return Worked::Refused(number);
     }
-    let stay = asked.stay;
-    search(
+    told(
         image,
         execution,
         bootstrap,
         ram,
         paper,
         journal,
-        place,
-        stay,
+        index,
+        asked,
     )
 }

@@ -1,6 +1,6 @@
 // The clock group: the 64-bit bus clock as two words, and the interval timer.
 ghost use mathlib.Core.Path.{_≡_};
-ghost use Rattle.clock.specs.Tick.{tickedOf};
+ghost use Rattle.clock.specs.Tick.{timeOf, tickedOf};
 
 pub struct Clock {
     pub high: u32,
@@ -14,12 +14,18 @@ pub struct Beat {
     pub rang: bool,
 }
 
+// The two clock words as one number.
+pub fn time(c: Clock) -> u64
+    ensures { λ r. ⌜ r ≡ timeOf c ⌝ }
+{
+    (c.high as u64) * 4294967296 + c.low as u64
+}
+
 // The work, by value: covered, so that all that is to be shown is arithmetic.
 pub fn ticked(c: Clock) -> Beat
     ensures { λ r. ⌜ r ≡ tickedOf c ⌝ }
 {
-    let time = (c.high as u64) * 4294967296 + c.low as u64;
-    let next = std::num::wrapping_add_u64(time, 1);
+    let next = std::num::wrapping_add_u64(time(c), 1);
     Beat {
         clock: Clock {
             high: (next / 4294967296) as u32,

@@ -1,9 +1,10 @@
 -- What every call keeps: the bytes that are lent are those of a past of ring's, whose state is where iterating the step leads.
-use Prim.Native.Nat.{ℕ, _+_, _-_, _/_}
+use Prim.Native.Nat.{ℕ, _+_, _-_, _*_, _/_}
 use native.Mathlib.Omega.{arith}
 use mathlib.Core.Path.{_≡_, refl, sym, ap, subst, _∙_}
 use mathlib.Core.Bool.{true}
 use mathlib.Core.List.{List, [], _∷_}
+use borrow.Author.Tests.{eq-eqb}
 use lib.ListN.{length}
 use Rattle.ring.specs.Run.{Config}
 use Rattle.ring.specs.Calls.{Event, ran, took, stepsRun, stepsTaken, net, Past}
@@ -16,15 +17,29 @@ use Rattle.rules.specs.Rules.{goodImage}
 use Rattle.step.specs.World.{World, Roms}
 use Rattle.turn.specs.Buffers.{Beside, Buffers, romsIn, besideAfter}
 use Rattle.run.specs.Run.{forward, configOf}
-use Rattle.back.specs.Back.{both}
+use Rattle.back.specs.Back.{base, both}
 use Rattle.back.specs.Allowed.{Allowed}
-use Rattle.answer.specs.Lent.{ramFits, romsFit, paperFits, journalFits}
+use Rattle.answer.specs.Lent.{ramFits, romsFit, paperFits, journalFits, indexFits}
+use Rattle.indexed.proofs.Kept.{Indexed}
+use Rattle.frames.specs.declared.Entry.{Entry}
+use Rattle.frames.specs.declared.Entry.the-variants.{Nothing, At}
+use Rattle.frames.specs.Bytes.{entryBytes, indexBytes}
+use Rattle.frames.specs.Afresh.{Index}
+use Rattle.word.specs.Lists.{tabulate}
+use Rattle.word.proofs.Lists.{length-flat, length-tabulate}
 use Rattle.accepted.specs.After.{machineAfter, buffersAfter}
 use Rattle.demand3.specs.Demand3.{Host, Boot, Booted, romsAt, resetTo, worldAt}
 use Rattle.accepted.proofs.Start.{few-slots}
 use Rattle.accepted.proofs.End.{end-good}
 use Rattle.accepted.proofs.End.{end-read}
-use Rattle.demand3.proofs.Boot.{boot-image, boot-machine, boot-mark, boot-allowed, boot-laws, later-allowed, later-long}
+use Rattle.demand3.proofs.Boot.{boot-image, boot-machine, boot-mark, frames, boot-framed, boot-laws, boot-besides, boot-indexed, later-allowed, later-long}
+
+sixteen : (e : Entry) → length (entryBytes e) ≡ 16
+sixteen Nothing = refl
+sixteen (At c) = refl
+
+index-long : (frames : ℕ) (ix : Index) → length (indexBytes frames ix) ≡ 16 * frames
+index-long frames ix = length-flat 16 entryBytes sixteen (tabulate frames ix) ∙ ap (λ (n : ℕ). 16 * n) (length-tabulate frames ix)
 
 -- the past that a host's bytes are of
 abbrev pub pastIn : (b : Boot) → Config (forward (romsAt b)) → List Event → Past (both (romsAt b))
@@ -35,7 +50,9 @@ configAt b h = configOf (romsAt b) (machineOf (h .buffers .image)) (h .buffers .
 
 module _ (b : Boot) (p : Booted b) where
   abbrev pub KeptIn : ℕ → Config (forward (romsAt b)) → List Event → Type 0
-  KeptIn n c events = Kept (both (romsAt b)) (worldAt (resetTo b)) (length (b .buffers .beside .journal)) (boot-laws b p) (boot-allowed b p) n (pastIn b c events)
+  KeptIn n c events =
+      Kept (both (romsAt b)) (worldAt (resetTo b)) (length (b .buffers .beside .journal)) (Indexed (base (romsAt b)) (frames b p)) (boot-laws b p) (boot-framed b p)
+      (boot-besides b p) n (pastIn b c events)
 
   pub record Carried (h : Host) : Type 0 where
     pub kept : KeptIn (slotsOf (b .buffers .beside .journal)) (configAt b h) (h .events)
@@ -47,10 +64,13 @@ module _ (b : Boot) (p : Booted b) where
   pub carried-start : Carried (resetTo b)
   carried-start =
       let w = worldAt (resetTo b) in
+      let journal = b .buffers .beside .journal in
+      let n = slotsOf journal in
       record {
         kept =
-            subst (λ (mark : Journal). KeptIn (slotsOf (b .buffers .beside .journal)) (record { state = w; ring = ringOf mark (b .buffers .beside .journal) }) []) (sym (boot-mark b p))
-            (kept-start (both (romsAt b)) w (length (b .buffers .beside .journal)) (boot-laws b p) (boot-allowed b p) (slotsOf (b .buffers .beside .journal)) (b .buffers .beside .journal) refl (omega arith));
+            subst (λ (mark : Journal). KeptIn n (record { state = w; side = resetTo b .buffers .beside .index; ring = ringOf mark journal }) []) (sym (boot-mark b p))
+            (kept-start (both (romsAt b)) w (length journal) (Indexed (base (romsAt b)) (frames b p)) (boot-laws b p) (boot-framed b p) (boot-besides b p) n
+            (resetTo b .buffers .beside .index) journal refl (omega arith) (boot-indexed b p));
         roms-same = refl;
         image-is = boot-image b p ∙ ap bytesOf (sym (boot-machine b p));
       }
@@ -64,11 +84,11 @@ module _ (b : Boot) (p : Booted b) where
     read : machineOf (bytesOf (machineAfter (c .state) (c .ring))) ≡ machineAfter (c .state) (c .ring)
     read = end-read (c .state) (c .ring) (slotsOf (b .buffers .beside .journal)) (few-slots (b .buffers .beside .journal) (p .journal-fits)) (state-allowed .good) (k .holds .sound)
 
-    pub carry : (beside : Beside) → romsIn beside ≡ romsAt b → Carried (record { buffers = buffersAfter beside (c .state) (c .ring); events = events })
+    pub carry : (beside : Beside) → romsIn beside ≡ romsAt b → Carried (record { buffers = buffersAfter beside (c .state) (c .side) (c .ring); events = events })
     carry beside same =
         record {
           kept =
-              subst (λ (m : Machine). KeptIn (slotsOf (b .buffers .beside .journal)) (configOf (romsAt b) m (besideAfter beside (c .state) (c .ring))) events)
+              subst (λ (m : Machine). KeptIn (slotsOf (b .buffers .beside .journal)) (configOf (romsAt b) m (besideAfter beside (c .state) (c .side) (c .ring))) events)
               (sym read) k;
           roms-same = same;
           image-is = ap bytesOf (sym read);
@@ -78,7 +98,7 @@ module _ (b : Boot) (p : Booted b) where
 
   module _ (n : ℕ) (c : Config (forward (romsAt b))) (events : List Event) (k : KeptIn n c events) where
     abbrev HoldsAt : ℕ → Type 0
-    HoldsAt m = Holds (both (romsAt b)) (worldAt (resetTo b)) (length (b .buffers .beside .journal)) n m c
+    HoldsAt m = Holds (both (romsAt b)) (worldAt (resetTo b)) (length (b .buffers .beside .journal)) (Indexed (base (romsAt b)) (frames b p)) n m c
 
     none-ran : KeptIn n c (ran 0 ∷ events)
     none-ran =
@@ -117,7 +137,7 @@ module _ (b : Boot) (p : Booted b) where
           image-is = c .image-is;
         })
 
-  -- ---- rows 1 to 5 are passed
+  -- ---- rows 1 to 5 and 10 are passed
 
   pub record Accepted (h : Host) : Type 0 where
     pub slots-same : slotsOf (h .buffers .beside .journal) ≡ slotsOf (b .buffers .beside .journal)
@@ -125,6 +145,7 @@ module _ (b : Boot) (p : Booted b) where
     pub roms-fit : romsFit (length (h .buffers .beside .execution)) (length (h .buffers .beside .bootstrap)) ≡ true
     pub paper-fits : paperFits (length (h .buffers .beside .paper)) ≡ true
     pub journal-fits : journalFits (length (h .buffers .beside .journal)) ≡ true
+    pub index-fits : indexFits (length (h .buffers .beside .ram)) (length (h .buffers .beside .index)) ≡ true
     pub image-good : goodImage (h .buffers .image) (length (h .buffers .beside .paper)) (length (h .buffers .beside .journal)) ≡ true
 
   pub accepted : (h : Host) → Carried h → Accepted h
@@ -141,6 +162,9 @@ module _ (b : Boot) (p : Booted b) where
         roms-fit = ap (λ (x : Roms). romsFit (length (x .execution)) (length (x .bootstrap))) (c .roms-same) ∙ p .roms-fit;
         paper-fits = ap (λ (l : ℕ). paperFits l) paper ∙ p .paper-fits;
         journal-fits = ap (λ (l : ℕ). journalFits l) (k .holds .long) ∙ p .journal-fits;
+        index-fits =
+            eq-eqb (length (lent .index)) (16 * (length (lent .ram) / 4096))
+            (ap length (k .holds .beside .bytes) ∙ index-long (frames b p) _ ∙ ap (λ (l : ℕ). 16 * (l / 4096)) (sym ram));
         image-good =
             ap (λ (l : List ℕ). goodImage l (length (lent .paper)) (length (lent .journal))) (c .image-is)
             ∙ end-good (worldAt h) (ringOf (machineOf (h .buffers .image) .journal) (lent .journal)) (slotsOf (b .buffers .beside .journal))

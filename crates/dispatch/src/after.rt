@@ -7,6 +7,7 @@ use actions::running::ran;
 use actions::running::two_matches;
 use message::blame;
 use message::blame::Culprit;
+use message::blame::Frame;
 use session::answer::REFUSED;
 use session::answer::Then;
 use session::turn::Turn;
@@ -26,16 +27,13 @@ fn taken_back(session: &mut [u64; 32], steps: u64) -> Turn {
     )
 }
 
-fn stood(session: &mut [u64; 32], culprit: Culprit) -> Turn {
+fn stood(session: &mut [u64; 32], culprit: Culprit, frame: Frame) -> Turn {
     session[CHANGED] = 1;
-    says(blame::before(culprit), Then::Ask)
+    says(blame::before(culprit, frame), Then::Ask)
 }
 
-fn unchanged(address: u64, holds: u64, on_hand: u64) -> Turn {
-    says(
-        message::with(message::NO_CHANGE, 0, address, holds, on_hand),
-        Then::Ask,
-    )
+fn unchanged(address: u64, holds: u64, on_hand: u64, frame: Frame) -> Turn {
+    says(blame::none(address, holds, on_hand, frame), Then::Ask)
 }
 
 // `turn` is what was planned where the machine was asked for nothing.
@@ -47,9 +45,11 @@ pub fn after(session: &mut [u64; 32], worked: Worked, turn: Turn) -> Turn {
         Worked::Excepted(steps, code, place) => excepted(session, steps, code, place),
         Worked::TwoMatches(steps) => two_matches(session, steps),
         Worked::TakenBack(steps) => taken_back(session, steps),
-        Worked::Found(culprit) => says(blame::found(culprit), Then::Ask),
-        Worked::Stood(culprit) => stood(session, culprit),
-        Worked::NoChange(address, holds, on_hand) => unchanged(address, holds, on_hand),
+        Worked::Found(culprit, frame) => says(blame::found(culprit, frame), Then::Ask),
+        Worked::Stood(culprit, frame) => stood(session, culprit, frame),
+        Worked::NoChange(address, holds, on_hand, frame) => {
+            unchanged(address, holds, on_hand, frame)
+        }
         Worked::NoWord(bytes) => refused(message::NO_WORD, bytes),
         Worked::NoRoom(bytes) => refused(message::NO_ROOM, bytes),
         Worked::Loaded(bytes, address) => loaded(session, bytes, address),

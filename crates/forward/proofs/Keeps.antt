@@ -24,11 +24,14 @@ use Rattle.good.specs.Good.{Good}
 use Rattle.good.proofs.Lengths.{step-lengths, step-whole}
 use Rattle.good.proofs.Keeps.{step-keeps}
 use Rattle.restored.proofs.Notes.{note-long}
+use Rattle.indexed.specs.Ahead.{tagOf}
+use Rattle.indexed.proofs.Lengths.{onward-long}
+use Rattle.marks.specs.Index.{distanceIn, ahead}
 use Rattle.turn.specs.Buffers.{Beside, Buffers, romsIn}
 use Rattle.run.specs.Run.{forward, configOf}
 use Rattle.answer.specs.declared.Reason.the-variants.{BudgetSpent}
 use Rattle.answer.specs.declared.Answer.the-variants.{Done}
-use Rattle.answer.specs.Lent.{ramFits, romsFit, paperFits, journalFits}
+use Rattle.answer.specs.Lent.{ramFits, romsFit, paperFits, journalFits, indexFits}
 use Rattle.accepted.specs.After.{worldFrom}
 use Rattle.accepted.specs.Left.{Left, leftOf}
 use Rattle.forward.specs.Run.{reasonNamed, ranOf, doneRun, runLeaves}
@@ -38,9 +41,9 @@ use Rattle.accepted.proofs.Start.{lent-whole, paper-short, few-slots, ring-soun
 use Rattle.accepted.proofs.End.{end-bytes, end-good, end-read}
 use Rattle.forward.proofs.Theorems.{runNumber, number-0, done-is}
 
--- ---- what a run keeps from step to step: `slots` of the journal, and the lengths of RAM, paper and journal
+-- ---- what a run keeps from step to step: `slots` of the journal, and the lengths of RAM, paper, journal and index
 
-module _ (roms : Roms) (slots ram paper journal : ℕ) where
+module _ (roms : Roms) (slots ram paper journal index : ℕ) where
   pub record Fine (c : Config (forward roms)) : Type 0 where
     pub good : Good (c .state)
     pub whole : Whole (lentIn roms (c .state))
@@ -48,6 +51,7 @@ module _ (roms : Roms) (slots ram paper journal : ℕ) where
     pub paper-long : length (c .state .paper) ≡ paper
     pub sound : Sound 256 slots (c .ring)
     pub journal-long : length (c .ring .bytes) ≡ journal
+    pub index-long : length (c .side) ≡ index
 
   fine-on : Below 256 (roms .execution) → Below 256 (roms .bootstrap) → paper < 2 ^ 32 → (c : Config (forward roms)) → Fine c → Fine (advance (forward roms) slots c)
   unfolding advance
@@ -56,14 +60,17 @@ module _ (roms : Roms) (slots ram paper journal : ℕ) where
       let some : 0 < length (w .cpu .tlb) = omega (arith, h .good .typed .sized .tlb) in
       let same = step-lengths roms w (h .whole) some in
       let short : length (w .paper) < 2 ^ 32 = omega (arith, few, h .paper-long) in
-      let long = note-long roms w (h .good) in
+      -- what the record keeps of the index
+      let distance : ℕ = distanceIn (tagOf (ahead roms) slots (c .ring) w (c .side)) in
+      let long = note-long distance roms w (h .good) in
       record {
         good = step-keeps roms execution bootstrap w short (h .whole) (h .good);
         whole = step-whole roms w (h .whole) some;
         ram-long = same .ram ∙ h .ram-long;
         paper-long = same .paper ∙ h .paper-long;
-        sound = sound-written 256 slots (recordBytes (noteOf roms w)) (c .ring) long (h .sound);
-        journal-long = length-written 256 slots (recordBytes (noteOf roms w)) (c .ring) long (h .sound) ∙ h .journal-long;
+        sound = sound-written 256 slots (recordBytes (noteOf distance roms w)) (c .ring) long (h .sound);
+        journal-long = length-written 256 slots (recordBytes (noteOf distance roms w)) (c .ring) long (h .sound) ∙ h .journal-long;
+        index-long = onward-long (ahead roms) (c .ring) w (c .side) slots ∙ h .index-long;
       }
 
 -- ---- the call
@@ -73,6 +80,7 @@ pub record RunKept (left : Left) (b : Buffers) : Type 0 where
   pub ram-long : length (left .buffers .beside .ram) ≡ length (b .beside .ram)
   pub paper-long : length (left .buffers .beside .paper) ≡ length (b .beside .paper)
   pub journal-long : length (left .buffers .beside .journal) ≡ length (b .beside .journal)
+  pub index-long : length (left .buffers .beside .index) ≡ length (b .beside .index)
   pub roms-same : romsIn (left .buffers .beside) ≡ romsIn (b .beside)
   pub image-bytes : Below 256 (left .buffers .image)
   pub ram-bytes : Below 256 (left .buffers .beside .ram)
@@ -89,7 +97,7 @@ module _ (b : Buffers) (budget stop : ℕ) (number : runNumber b budget stop ≡
   module _ (image-are : Below 256 (b .image)) (execution-are : Below 256 (lent .execution)) (bootstrap-are : Below 256 (lent .bootstrap))
       (ram-are : Below 256 (lent .ram)) (paper-are : Below 256 (lent .paper)) where
     abbrev FineHere : Config (forward roms) → Type 0
-    FineHere = Fine roms (slotsOf (lent .journal)) (length (lent .ram)) (length (lent .paper)) (length (lent .journal))
+    FineHere = Fine roms (slotsOf (lent .journal)) (length (lent .ram)) (length (lent .paper)) (length (lent .journal)) (length (lent .index))
 
     start : FineHere (configOf roms (machineOf (b .image)) lent)
     start =
@@ -103,6 +111,7 @@ module _ (b : Buffers) (budget stop : ℕ) (number : runNumber b budget stop ≡
           sound =
               ring-sound (lent .journal) (machineOf (b .image) .journal) (image-mark (b .image) (length (lent .paper)) (length (lent .journal)) good);
           journal-long = refl;
+          index-long = refl;
         }
 
     fine : FineHere (ranOf b budget stop .config)
@@ -110,8 +119,8 @@ module _ (b : Buffers) (budget stop : ℕ) (number : runNumber b budget stop ≡
         let t = number-0 b budget stop .0 number in
         let short = paper-short (length (lent .paper)) (t .1 .1 .0) in
         run-keeps (forward roms) (slotsOf (lent .journal)) FineHere
-        (fine-on roms (slotsOf (lent .journal)) (length (lent .ram)) (length (lent .paper)) (length (lent .journal)) execution-are bootstrap-are short) budget
-        (not (eqb stop 0)) (configOf roms (machineOf (b .image)) lent) start
+        (fine-on roms (slotsOf (lent .journal)) (length (lent .ram)) (length (lent .paper)) (length (lent .journal)) (length (lent .index)) execution-are bootstrap-are
+        short) budget (not (eqb stop 0)) (configOf roms (machineOf (b .image)) lent) start
 
     few : slotsOf (lent .journal) < 2 ^ 32
     few = few-slots (lent .journal) (number-0 b budget stop .0 number .1 .1 .1 .0)
@@ -127,6 +136,7 @@ module _ (b : Buffers) (budget stop : ℕ) (number : runNumber b budget stop ≡
           ram-long = fine .ram-long;
           paper-long = fine .paper-long;
           journal-long = fine .journal-long;
+          index-long = fine .index-long;
           roms-same = refl;
           image-bytes = end-bytes (c .state) (c .ring) n few (fine .good) (fine .sound);
           ram-bytes = fine .good .ram;
@@ -158,7 +168,10 @@ module _ (b : Buffers) (budget stop : ℕ) (number : runNumber b budget stop ≡
         ap (λ (x : Roms). romsFit (length (x .execution)) (length (x .bootstrap))) (k .roms-same) ∙ t .1 .0 in
         let p : paperFits (length (after .beside .paper)) ≡ true = ap (λ (n : ℕ). paperFits n) (k .paper-long) ∙ t .1 .1 .0 in
         let j : journalFits (length (after .beside .journal)) ≡ true = ap (λ (n : ℕ). journalFits n) (k .journal-long) ∙ t .1 .1 .1 .0 in
-        number-0 after more stop′ .1 (r, (o, (p, (j, (k .image-good, e)))))
+        let x : indexFits (length (after .beside .ram)) (length (after .beside .index)) ≡ true =
+        ap (λ (n : ℕ). indexFits n (length (after .beside .index))) (k .ram-long) ∙ ap (λ (n : ℕ). indexFits (length (b .beside .ram)) n) (k .index-long)
+        ∙ t .1 .1 .1 .1 .1 .1 in
+        number-0 after more stop′ .1 (r, (o, (p, (j, (k .image-good, (e, x))))))
 
 -- ---- a run that takes no step leaves every byte as it was
 
@@ -179,9 +192,10 @@ module _ (b : Buffers) (budget stop : ℕ) (number : runNumber b budget stop ≡
 module _ (b : Buffers) (stop : ℕ) (ram-fits : ramFits (length (b .beside .ram)) ≡ true)
     (roms-fit : romsFit (length (b .beside .execution)) (length (b .beside .bootstrap)) ≡ true) (paper-fits : paperFits (length (b .beside .paper)) ≡ true)
     (journal-fits : journalFits (length (b .beside .journal)) ≡ true)
-    (good : goodImage (b .image) (length (b .beside .paper)) (length (b .beside .journal)) ≡ true) where
+    (good : goodImage (b .image) (length (b .beside .paper)) (length (b .beside .journal)) ≡ true)
+    (index-fits : indexFits (length (b .beside .ram)) (length (b .beside .index)) ≡ true) where
   none-done : runNumber b 0 stop ≡ 0
-  none-done = number-0 b 0 stop .1 (ram-fits, (roms-fit, (paper-fits, (journal-fits, (good, le-leb 0 1000000 (omega arith))))))
+  none-done = number-0 b 0 stop .1 (ram-fits, (roms-fit, (paper-fits, (journal-fits, (good, (le-leb 0 1000000 (omega arith), index-fits))))))
 
   pub run-none : Below 256 (b .image) → runLeaves b 0 stop ≡ leftOf (Done 0 BudgetSpent) b
   run-none small =

@@ -52,10 +52,11 @@ module _ (b : Buffers) (budget stop : ℕ) (number : runNumber b budget stop ≡
   just-number : runNumber b steps 0 ≡ 0
   just-number =
       let t = number-0 b budget stop .0 number in
-      let most : budget ≤ 1000000 = leb-true budget 1000000 (t .1 .1 .1 .1 .1) in
-      number-0 b steps 0 .1 (t .0, (t .1 .0, (t .1 .1 .0, (t .1 .1 .1 .0, (t .1 .1 .1 .1 .0, le-leb steps 1000000 (omega (arith, most, run-says b budget stop number .few)))))))
+      let most : budget ≤ 1000000 = leb-true budget 1000000 (t .1 .1 .1 .1 .1 .0) in
+      let few = le-leb steps 1000000 (omega (arith, most, run-says b budget stop number .few)) in
+      number-0 b steps 0 .1 (t .0, (t .1 .0, (t .1 .1 .0, (t .1 .1 .1 .0, (t .1 .1 .1 .1 .0, (few, t .1 .1 .1 .1 .1 .1))))))
 
-  -- WHATEVER ENDED IT, a run leaves what a run with the budget of its steps and no stop leaves: image, RAM, paper and journal
+  -- WHATEVER ENDED IT, a run leaves what a run with the budget of its steps and no stop leaves: image, RAM, paper, journal and index
   pub run-steps-only : runLeaves b steps 0 ≡ leftOf (Done steps BudgetSpent) (runLeaves b budget stop .buffers)
   run-steps-only =
       done-is b steps 0 just-number

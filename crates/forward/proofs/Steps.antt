@@ -88,7 +88,7 @@ module _ (b : Buffers) (budget stop : ℕ) where
   -- of any run that keeps the laws of a run
   says-of : (r : Ran (forward (romsIn (b .beside)))) → budget ≤ 1000000 →
       Steps (forward (romsIn (b .beside))) budget (not (eqb stop 0)) (worldFrom b) r →
-      RunSays b budget stop (leftOf (Done (r .taken) (reasonNamed (r .reason))) (buffersAfter (b .beside) (r .config .state) (r .config .ring)))
+      RunSays b budget stop (leftOf (Done (r .taken) (reasonNamed (r .reason))) (buffersAfter (b .beside) (r .config .state) (r .config .side) (r .config .ring)))
   says-of r most s =
       let g = r .config .ring in
       let mark : Journal = record { «on_hand» = g .hand; «next_slot» = g .next } in
@@ -120,7 +120,7 @@ module _ (b : Buffers) (budget stop : ℕ) where
   pub run-says : runNumber b budget stop ≡ 0 → RunSays b budget stop (runLeaves b budget stop)
   run-says e =
       let t = number-0 b budget stop .0 e in
-      subst (λ (l : Left). RunSays b budget stop l) (sym (done-is b budget stop e)) (done-says (leb-true budget 1000000 (t .1 .1 .1 .1 .1)))
+      subst (λ (l : Left). RunSays b budget stop l) (sym (done-is b budget stop e)) (done-says (leb-true budget 1000000 (t .1 .1 .1 .1 .1 .0)))
 
   -- done or refused, the answer fits in the 64 bits that it is packed in
   pub packed-fits : packedOf (runLeaves b budget stop .answer) < 2 ^ 64
@@ -132,7 +132,7 @@ module _ (b : Buffers) (budget stop : ℕ) where
       number : ℕ
       number = runNumber b budget stop
 
-      small : number ≤ 6
+      small : number ≤ 10
       small = no-other b budget stop
 
       fits : (reasonOf (left .answer) ≡ 1) ⊎ ((reasonOf (left .answer) ≡ 2) ⊎ (reasonOf (left .answer) ≡ 3)) → stepsOf (left .answer) < 2 ^ 32 → packedOf (left .answer) < 2 ^ 64

@@ -8,12 +8,12 @@ use Rattle.state.specs.Layout.{machineOf}
 use Rattle.rules.specs.Rules.{goodImage}
 use Rattle.turn.specs.Buffers.{Beside, Buffers, romsIn}
 use Rattle.run.specs.Run.{forward, runOf}
-use Rattle.answer.specs.Lent.{andThen, lentTest}
+use Rattle.answer.specs.Lent.{indexFits, andThen, lentTest}
 use Rattle.accepted.specs.After.{buffersAfter}
 use Rattle.accepted.specs.Left.{Left, leftOf, leftBy}
 use Rattle.answer.specs.declared.Reason.{Reason}
 use Rattle.answer.specs.declared.Reason.the-variants.{BudgetSpent, Exception, TwoMatches}
-use Rattle.answer.specs.declared.Refusal.the-variants.{Image, Range}
+use Rattle.answer.specs.declared.Refusal.the-variants.{Image, Range, Index}
 use Rattle.answer.specs.declared.Answer.the-variants.{Done}
 use Rattle.answer.specs.declared.lent.Test.{Test}
 use Rattle.answer.specs.declared.lent.Test.the-variants.{Passed, Failed}
@@ -24,10 +24,12 @@ use Rattle.answer.specs.declared.lent.Test.the-variants.{Passed, Failed}
 abbrev pub besideTest : Beside → Test
 besideTest b = lentTest (length (b .execution)) (length (b .bootstrap)) (length (b .ram)) (length (b .paper)) (length (b .journal))
 
--- 5: the image is not 509 bytes or breaks a rule; 6: "a budget over 1,000,000"
+-- 5: the image is not 509 bytes or breaks a rule; 6: "a budget over 1,000,000"; 10: the index's length (document 02, L6)
 unfoldable pub imageTest : Buffers → ℕ → Test
 imageTest b budget =
-    cond (goodImage (b .image) (length (b .beside .paper)) (length (b .beside .journal))) (cond (leb budget 1000000) Passed (Failed Range)) (Failed Image)
+    cond (goodImage (b .image) (length (b .beside .paper)) (length (b .beside .journal)))
+    (cond (leb budget 1000000) (cond (indexFits (length (b .beside .ram)) (length (b .beside .index))) Passed (Failed Index)) (Failed Range))
+    (Failed Image)
 
 abbrev pub runTest : Buffers → ℕ → Test
 runTest b budget = andThen (besideTest (b .beside)) (imageTest b budget)
@@ -47,7 +49,7 @@ ranOf b budget stop = runOf budget (not (eqb stop 0)) (machineOf (b .image)) (b 
 unfoldable pub doneRun : Buffers → ℕ → ℕ → Left
 doneRun b budget stop =
     let ran = ranOf b budget stop in
-    leftOf (Done (ran .taken) (reasonNamed (ran .reason))) (buffersAfter (b .beside) (ran .config .state) (ran .config .ring))
+    leftOf (Done (ran .taken) (reasonNamed (ran .reason))) (buffersAfter (b .beside) (ran .config .state) (ran .config .side) (ran .config .ring))
 
 -- THE CALL
 unfoldable pub runLeaves : Buffers → ℕ → ℕ → Left

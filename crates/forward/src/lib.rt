@@ -10,6 +10,7 @@ use answer::Answer;
 use answer::Reason;
 use answer::Refusal;
 use answer::lent::Test;
+use answer::lent::index_fits;
 use answer::lent::lent_test;
 use look::Stop;
 use rules::judged;
@@ -36,16 +37,17 @@ fn done(
     ram: &mut [u8],
     paper: &mut [u8],
     journal: &mut [u8],
+    index: &mut [u8],
     budget: u32,
     stop: u64,
 ) -> Answer
     requires { ⌜ machine ≡ machineOf (now image) ⌝ }
     requires { ⌜ length (now image) ≡ 509 ⌝ }
-    requires { ⌜ Fits (besideOf (now execution) (now bootstrap) (now ram) (now paper) (now journal)) machine ⌝ }
+    requires { ⌜ Fits (besideOf (now execution) (now bootstrap) (now ram) (now paper) (now journal) (now index)) machine ⌝ }
     ensures { λ r. ⌜
-        leftOf r (buffersOf (now (image .exit)) (now (execution .entry)) (now (bootstrap .entry)) (now (ram .exit)) (now (paper .exit)) (now (journal .exit)))
+        leftOf r (buffersOf (now (image .exit)) (now (execution .entry)) (now (bootstrap .entry)) (now (ram .exit)) (now (paper .exit)) (now (journal .exit)) (now (index .exit)))
         ≡ doneRun
-        (buffersOf (now (image .entry)) (now (execution .entry)) (now (bootstrap .entry)) (now (ram .entry)) (now (paper .entry)) (now (journal .entry)))
+        (buffersOf (now (image .entry)) (now (execution .entry)) (now (bootstrap .entry)) (now (ram .entry)) (now (paper .entry)) (now (journal .entry)) (now (index .entry)))
         budget stop
         ⌝ }
 {
@@ -56,6 +58,7 @@ fn done(
         ram,
         paper,
         journal,
+        index,
         budget,
         stop != 0,
     );
@@ -65,7 +68,7 @@ fn done(
     Answer::Done(ran.steps, reason(why))
 }
 
-// Rows 5 and 6, of lengths that are allowed.
+// Rows 5, 6 and 10, of lengths that are allowed.
 fn with_image(
     image: &mut [u8],
     execution: &[u8],
@@ -73,14 +76,15 @@ fn with_image(
     ram: &mut [u8],
     paper: &mut [u8],
     journal: &mut [u8],
+    index: &mut [u8],
     budget: u64,
     stop: u64,
 ) -> Answer
-    requires { ⌜ besideTest (besideOf (now execution) (now bootstrap) (now ram) (now paper) (now journal)) ≡ Test.Passed ⌝ }
+    requires { ⌜ besideTest (besideOf (now execution) (now bootstrap) (now ram) (now paper) (now journal) (now index)) ≡ Test.Passed ⌝ }
     ensures { λ r. ⌜
-        leftOf r (buffersOf (now (image .exit)) (now (execution .entry)) (now (bootstrap .entry)) (now (ram .exit)) (now (paper .exit)) (now (journal .exit)))
+        leftOf r (buffersOf (now (image .exit)) (now (execution .entry)) (now (bootstrap .entry)) (now (ram .exit)) (now (paper .exit)) (now (journal .exit)) (now (index .exit)))
         ≡ imageLeaves
-        (buffersOf (now (image .entry)) (now (execution .entry)) (now (bootstrap .entry)) (now (ram .entry)) (now (paper .entry)) (now (journal .entry)))
+        (buffersOf (now (image .entry)) (now (execution .entry)) (now (bootstrap .entry)) (now (ram .entry)) (now (paper .entry)) (now (journal .entry)) (now (index .entry)))
         budget stop
         ⌝ }
 {
@@ -94,6 +98,9 @@ fn with_image(
     if 1_000_000 < budget {
         return Answer::Refused(Refusal::Range);
     }
+    if !index_fits(ram.len(), index.len()) {
+        return Answer::Refused(Refusal::Index);
+    }
     let machine = verdict.machine;
     done(
         machine,
@@ -103,6 +110,7 @@ fn with_image(
         ram,
         paper,
         journal,
+        index,
         budget as u32,
         stop,
     )
@@ -115,13 +123,14 @@ pub fn run(
     ram: &mut [u8],
     paper: &mut [u8],
     journal: &mut [u8],
+    index: &mut [u8],
     budget: u64,
     stop: u64,
 ) -> Answer
     ensures { λ r. ⌜
-        leftOf r (buffersOf (now (image .exit)) (now (execution .entry)) (now (bootstrap .entry)) (now (ram .exit)) (now (paper .exit)) (now (journal .exit)))
+        leftOf r (buffersOf (now (image .exit)) (now (execution .entry)) (now (bootstrap .entry)) (now (ram .exit)) (now (paper .exit)) (now (journal .exit)) (now (index .exit)))
         ≡ runLeaves
-        (buffersOf (now (image .entry)) (now (execution .entry)) (now (bootstrap .entry)) (now (ram .entry)) (now (paper .entry)) (now (journal .entry)))
+        (buffersOf (now (image .entry)) (now (execution .entry)) (now (bootstrap .entry)) (now (ram .entry)) (now (paper .entry)) (now (journal .entry)) (now (index .entry)))
         budget stop
         ⌝ }
 {
@@ -141,6 +150,7 @@ pub fn run(
             ram,
             paper,
             journal,
+            index,
             budget,
             stop,
         ),

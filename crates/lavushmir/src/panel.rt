@@ -1,25 +1,29 @@
 // The calls for C, as include/lavushmir.h declares them.
 ghost use Rattle.turn.specs.Buffers.{buffersOf, buffersBack};
 ghost use lib.ListN.{length};
-ghost use Rattle.lavushmir.specs.Panel.{PackedResetIs, PackedConvertIs, PackedIs};
+ghost use Rattle.lavushmir.specs.Panel.{PackedResetIs, PackedConvertIs, PackedIs, PackedLastWriteIs};
 ghost use Rattle.forward.specs.Run.{runLeaves};
 ghost use Rattle.backward.specs.Back.{backLeaves};
 use answer::packed;
 use backward::take_back;
 use convert::convert;
 use forward::run;
+use lastwrite::last_write;
 use reset::reset;
 
 #[no_mangle]
 pub extern "C" fn lavushmir_reset(
     image: &mut [u8],
+    index: &mut [u8],
     time_scale: u64,
     printer_delay: u64,
     installed: u64,
 ) -> u64
-    ensures { λ r. ⌜ PackedResetIs (now (image .entry)) «time_scale» «printer_delay» installed r (now (image .exit)) ⌝ }
+    ensures { λ r. ⌜
+        PackedResetIs (now (image .entry)) (now (index .entry)) «time_scale» «printer_delay» installed r (now (image .exit)) (now (index .exit))
+        ⌝ }
 {
-    packed(reset(image, time_scale, printer_delay, installed))
+    packed(reset(image, index, time_scale, printer_delay, installed))
 }
 
 #[no_mangle]
@@ -42,16 +46,17 @@ pub extern "C" fn lavushmir_run(
     ram: &mut [u8],
     paper: &mut [u8],
     journal: &mut [u8],
+    index: &mut [u8],
     budget: u64,
     stop_at_exceptions: u64,
 ) -> u64
     ensures { λ r. ⌜
         PackedIs
         (runLeaves
-        (buffersOf (now (image .entry)) (now («execution_rom» .entry)) (now («bootstrap_rom» .entry)) (now (ram .entry)) (now (paper .entry)) (now (journal .entry)))
+        (buffersOf (now (image .entry)) (now («execution_rom» .entry)) (now («bootstrap_rom» .entry)) (now (ram .entry)) (now (paper .entry)) (now (journal .entry)) (now (index .entry)))
         budget «stop_at_exceptions»)
         r
-        (buffersOf (now (image .exit)) (now («execution_rom» .entry)) (now («bootstrap_rom» .entry)) (now (ram .exit)) (now (paper .exit)) (now (journal .exit)))
+        (buffersOf (now (image .exit)) (now («execution_rom» .entry)) (now («bootstrap_rom» .entry)) (now (ram .exit)) (now (paper .exit)) (now (journal .exit)) (now (index .exit)))
         ⌝ }
 {
     packed(run(
@@ -61,6 +66,7 @@ pub extern "C" fn lavushmir_run(
         ram,
         paper,
         journal,
+        index,
         budget,
         stop_at_exceptions,
     ))
@@ -72,13 +78,32 @@ pub extern "C" fn lavushmir_take_back(
     ram: &mut [u8],
     paper: &mut [u8],
     journal: &[u8],
+    index: &mut [u8],
     steps: u64,
 ) -> u64
     ensures { λ r. ⌜
-        PackedIs (backLeaves (buffersBack (now (image .entry)) (now (ram .entry)) (now (paper .entry)) (now (journal .entry))) steps)
+        PackedIs (backLeaves (buffersBack (now (image .entry)) (now (ram .entry)) (now (paper .entry)) (now (journal .entry)) (now (index .entry))) steps)
         r
-        (buffersBack (now (image .exit)) (now (ram .exit)) (now (paper .exit)) (now (journal .entry)))
+        (buffersBack (now (image .exit)) (now (ram .exit)) (now (paper .exit)) (now (journal .entry)) (now (index .exit)))
         ⌝ }
 {
-    packed(take_back(image, ram, paper, journal, steps))
+    packed(take_back(image, ram, paper, journal, index, steps))
+}
+
+#[no_mangle]
+pub extern "C" fn lavushmir_last_write(
+    image: &[u8],
+    ram: &[u8],
+    paper: &[u8],
+    journal: &[u8],
+    index: &[u8],
+    address: u64,
+    answer: &mut [u8],
+) -> u64
+    ensures { λ r. ⌜
+        PackedLastWriteIs (buffersBack (now (image .entry)) (now (ram .entry)) (now (paper .entry)) (now (journal .entry)) (now (index .entry))) address
+        (now (answer .entry)) r (now (answer .exit))
+        ⌝ }
+{
+    packed(last_write(image, ram, paper, journal, index, address, answer))
 }

@@ -109,8 +109,9 @@ fn blame(out: &mut [u8], at: usize) -> usize {
         b"blame ADDRESS\n\
           Says which of the steps on hand last changed the word of RAM at this physical\n\
           address: how many steps ago, at which clock and PC, by which instruction, from\n\
-          which value to which. A store of the value that was there is no change. Nothing\n\
-          moves: the machine stands where it stood.\n\
+          which value to which; and when its frame, 4,096 bytes, was last changed. A store\n\
+          of the value that was there is no change. Nothing moves: the machine stands\n\
+          where it stood.\n\
           Example: blame 0x20000100\n",
     )
 }

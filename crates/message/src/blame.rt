@@ -1,7 +1,8 @@
-// Who changed a word of RAM.
+// Who changed a word of RAM, and when its frame was changed.
 use crate::BEFORE;
 use crate::FOUND;
 use crate::Message;
+use crate::NO_CHANGE;
 
 // The step that changed the word at `address`.
 pub struct Culprit {
@@ -14,7 +15,39 @@ pub struct Culprit {
     pub instruction: u64,
 }
 
-pub fn found(c: Culprit) -> Message {
+// What is said of the frame that a word lies in: a row of the table in `say_frame`, the frame's first address, and the clock of its last change.
+pub struct Frame {
+    pub row: u64,
+    pub address: u64,
+    pub clock: u64,
+}
+
+pub fn no_frame() -> Frame {
+    Frame {
+        row: 0,
+        address: 0,
+        clock: 0,
+    }
+}
+
+pub fn frame_changed(address: u64, clock: u64) -> Frame {
+    Frame {
+        row: 1,
+        address,
+        clock,
+    }
+}
+
+// No step on hand changed a byte of it.
+pub fn frame_kept(address: u64) -> Frame {
+    Frame {
+        row: 2,
+        address,
+        clock: 0,
+    }
+}
+
+pub fn found(c: Culprit, frame: Frame) -> Message {
     Message {
         row: FOUND,
         stands: 0,
@@ -26,11 +59,12 @@ pub fn found(c: Culprit) -> Message {
         f: c.pc,
         g: c.instruction,
         h: c.address,
+        frame,
     }
 }
 
 // The machine stands just before the step that changes `address`.
-pub fn before(c: Culprit) -> Message {
+pub fn before(c: Culprit, frame: Frame) -> Message {
     Message {
         row: BEFORE,
         stands: 1,
@@ -42,5 +76,23 @@ pub fn before(c: Culprit) -> Message {
         f: 0,
         g: 0,
         h: 0,
+        frame,
+    }
+}
+
+// No step on hand changed `address`.
+pub fn none(address: u64, holds: u64, on_hand: u64, frame: Frame) -> Message {
+    Message {
+        row: NO_CHANGE,
+        stands: 0,
+        a: address,
+        b: holds,
+        c: on_hand,
+        d: 0,
+        e: 0,
+        f: 0,
+        g: 0,
+        h: 0,
+        frame,
     }
 }

@@ -1,6 +1,8 @@
-// What is said of what was done or refused: a row of the two tables below, with values, and perhaps where the machine stands.
-pub mod blame; // who changed a word
+// What is said of what was done or refused: a row of the three tables below, with values, and perhaps of a word's frame and of where the machine stands.
+pub mod blame; // who changed a word, and when its frame was changed
 
+use crate::blame::Frame;
+use crate::blame::no_frame;
 use phrase::template::eight;
 use phrase::template::fill_row;
 use phrase::template::four;
@@ -17,63 +19,68 @@ pub struct Message {
     pub f: u64,
     pub g: u64,
     pub h: u64,
+    // Of a word's last change: what is said of its frame.
+    pub frame: Frame,
 }
 
-// Rows 1 to 9 are document 01's numbers.
+// A refusal with a number has the row of that number.
 pub const NOTHING: u64 = 0;
 
-pub const NO_STATION: u64 = 10;
+pub const NO_WORD: u64 = 11;
 
-pub const STATION_THERE: u64 = 11;
+// Rows of the second table, refusals without a number; its first row has this one.
+const SECOND: u64 = 40;
 
-pub const NO_WORD: u64 = 12;
+pub const NO_STATION: u64 = 40;
 
-pub const NO_ROOM: u64 = 13;
+pub const STATION_THERE: u64 = 41;
 
-pub const NO_PRINTER: u64 = 14;
+pub const NO_ROOM: u64 = 42;
 
-pub const TOO_LONG: u64 = 15;
+pub const NO_PRINTER: u64 = 43;
 
-pub const NO_ADDRESS: u64 = 16;
+pub const TOO_LONG: u64 = 44;
 
-// Rows of the second table, whose first row has this number.
-const SECOND: u64 = 20;
+pub const NO_ADDRESS: u64 = 45;
 
-pub const RAN: u64 = 20;
+// Rows of the third table, what was done; its first row has this one.
+const THIRD: u64 = 60;
 
-pub const INTERRUPTED: u64 = 21;
+pub const RAN: u64 = 60;
 
-pub const EXCEPTED: u64 = 22;
+pub const INTERRUPTED: u64 = 61;
 
-pub const GOES_ON: u64 = 23;
+pub const EXCEPTED: u64 = 62;
 
-pub const TAKEN_BACK: u64 = 24;
+pub const GOES_ON: u64 = 63;
 
-pub const LOADED: u64 = 25;
+pub const TAKEN_BACK: u64 = 64;
 
-pub const MADE: u64 = 26;
+pub const LOADED: u64 = 65;
 
-pub const RESTORED: u64 = 27;
+pub const MADE: u64 = 66;
 
-pub const FOUND: u64 = 28;
+pub const RESTORED: u64 = 67;
 
-pub const NO_CHANGE: u64 = 29;
+pub const FOUND: u64 = 68;
 
-pub const BEFORE: u64 = 30;
+pub const NO_CHANGE: u64 = 69;
 
-pub const UNCHANGED: u64 = 31;
+pub const BEFORE: u64 = 70;
 
-pub const SAVED: u64 = 32;
+pub const UNCHANGED: u64 = 71;
 
-pub const NOT_SAVED: u64 = 33;
+pub const SAVED: u64 = 72;
 
-pub const LINE_FEED: u64 = 34;
+pub const NOT_SAVED: u64 = 73;
 
-pub const WELCOME: u64 = 35;
+pub const LINE_FEED: u64 = 74;
 
-pub const WELCOME_NEW: u64 = 36;
+pub const WELCOME: u64 = 75;
 
-pub const TWO_MATCHES: u64 = 37;
+pub const WELCOME_NEW: u64 = 76;
+
+pub const TWO_MATCHES: u64 = 77;
 
 pub fn with(row: u64, stands: u64, a: u64, b: u64, c: u64) -> Message {
     Message {
@@ -87,11 +94,12 @@ pub fn with(row: u64, stands: u64, a: u64, b: u64, c: u64) -> Message {
         f: 0,
         g: 0,
         h: 0,
+        frame: no_frame(),
     }
 }
 
-// Why something is refused: what is wrong and what to do, in one line.
-fn refused(out: &mut [u8], at: usize, row: u64, a: u64) -> usize {
+// Why a call refuses, by its number: what is wrong and what to do, in one line.
+fn numbered(out: &mut [u8], at: usize, row: u64, a: u64) -> usize {
     fill_row(
         out,
         at,
@@ -105,9 +113,21 @@ fn refused(out: &mut [u8], at: usize, row: u64, a: u64) -> usize {
         Refused (7): so many steps are not on hand. info station says how many are.\n|\
         Refused (8): a record of the journal is damaged. Go back less, or restore.\n|\
         Refused (9): no ROM has that word. Give a multiple of 4 in a ROM.\n|\
-        Refused: no station is here yet. Make one: new execution FILE bootstrap FILE\n|\
-        Refused: a station is here already. Give another folder to make one there.\n|\
+        Refused (10): the index does not fit the RAM. Go back by restore.\n|\
         Refused: give a multiple of 4 in RAM, which is %g bytes from 0x20000000.\n|\
+        Refused (12): no room for the answer. This is a fault of the program.\n",
+        row,
+        four(a, 0, 0, 0),
+    )
+}
+
+// Why a line is refused before any call is made.
+fn refused(out: &mut [u8], at: usize, row: u64, a: u64) -> usize {
+    fill_row(
+        out,
+        at,
+        b"Refused: no station is here yet. Make one: new execution FILE bootstrap FILE\n|\
+        Refused: a station is here already. Give another folder to make one there.\n|\
         Refused: the file does not fit. RAM is %g bytes from 0x20000000.\n|\
         Refused: printers have the numbers 0 to 7. Try info printers.\n|\
         Refused: a line has at most 1,024 characters. Make it shorter.\n|\
@@ -169,9 +189,23 @@ fn stands(out: &mut [u8], at: usize, image: &[u8], says: u64) -> usize {
     )
 }
 
+fn say_frame(out: &mut [u8], at: usize, frame: Frame) -> usize {
+    fill_row(
+        out,
+        at,
+        b"|The last change in frame %a was at clock %g.\n|\
+        No step on hand changed a byte of frame %a.\n",
+        frame.row,
+        four(frame.address, frame.clock, 0, 0),
+    )
+}
+
 pub fn say(out: &mut [u8], at: usize, image: &[u8], m: Message) -> usize {
     let values = eight(m.a, m.b, m.c, m.d, m.e, m.f, m.g, m.h);
-    let at = refused(out, at, m.row, m.a);
-    let at = reported(out, at, std::num::wrapping_sub_u64(m.row, SECOND), values);
+    let frame = m.frame;
+    let at = numbered(out, at, m.row, m.a);
+    let at = refused(out, at, std::num::wrapping_sub_u64(m.row, SECOND), m.a);
+    let at = reported(out, at, std::num::wrapping_sub_u64(m.row, THIRD), values);
+    let at = say_frame(out, at, frame);
     stands(out, at, image, m.stands)
 }

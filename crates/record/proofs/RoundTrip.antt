@@ -56,7 +56,7 @@ unfolding layoutOf recordAt savedAt
 read-spelt r Nothing p = refl
 read-spelt r (Register n old) p = refl
 read-spelt r (TlbRow i row) p = refl
-read-spelt r (RamWord place old) p = refl
+read-spelt r (RamWord place old distance) p = refl
 
 read-whole : (r : Record) → Ranged r → recordAt (λ (k : ℕ). getD (layoutOf r) k 0) ≡ r
 read-whole r t =
@@ -93,7 +93,7 @@ unfolding layoutOf savedKeeps
 spelt-keeps r Nothing p e w = rw w
 spelt-keeps r (Register n old) p e w = rw (e, w)
 spelt-keeps r (TlbRow i row) p e w = rw (e, w)
-spelt-keeps r (RamWord place old) p e w = rw (e, w)
+spelt-keeps r (RamWord place old distance) p e w = rw (e, w)
 
 keep-from-list : (f : ℕ → ℕ) → wordsKeep f ≡ wordsKeep (λ (k : ℕ). getD (tabulate 64 f) k 0)
 keep-from-list f = refl
@@ -133,9 +133,7 @@ module _ (which first second : ℕ) where
 
   is-word : savedKeeps 3 which first second ≡ true → SavedIs 3 which first second
   unfolding savedKeeps savedAt
-  is-word e =
-      let h = both _ _ e in
-      record { words = rw (eqb-true second 0 (h .1)); ranged = h .0 }
+  is-word e = record { words = refl; ranged = e }
 
   -- what holds at a kind, by the test that found it
   at-kind : (k kind : ℕ) → eqb kind k ≡ true → (savedKeeps k which first second ≡ true → SavedIs k which first second) →

@@ -33,7 +33,7 @@ pub length-saved : (s : Saved) → length (savedWords s) ≡ 4
 length-saved Nothing = refl
 length-saved (Register _ _) = refl
 length-saved (TlbRow _ _) = refl
-length-saved (RamWord _ _) = refl
+length-saved (RamWord _ _ _) = refl
 
 module _ (r : Record) (eight : length (r .printers) ≡ 8) where
   pub length-layout : length (layoutOf r) ≡ 64

@@ -13,7 +13,7 @@ use Rattle.printer.specs.declared.saved.SavedPaper.{SavedPaper}
 use Rattle.record.specs.declared.Record.{Record}
 use Rattle.record.specs.declared.Saved.{Saved}
 use Rattle.record.specs.declared.Saved.the-variants.{Nothing, Register, TlbRow, RamWord}
-use Rattle.record.specs.Layout.{layoutOf, savedBase, unusedBase, slotWord, paperAt}
+use Rattle.record.specs.Layout.{distanceRoom, layoutOf, savedBase, unusedBase, slotWord, paperAt}
 
 -- a printer that did not write has 0 for its byte
 abbrev pub byteKeeps : SavedPaper → ℕ → Bool
@@ -23,12 +23,12 @@ byteKeeps p n = bit n (p .mask) || eqb (getD (p .bytes) n 0) 0
 unfoldable pub paperKeeps : SavedPaper → Bool
 paperKeeps p = ltb (p .mask) 256 && every devices (byteKeeps p)
 
--- a register 1 to 31, a row of the table, a RAM place that is a multiple of 4; and 0 where the kind needs no word
+-- a register 1 to 31, a row of the table, a RAM place that is a multiple of 4 with a distance of 16 bits; and 0 where the kind needs no word
 unfoldable pub savedKeeps : ℕ → ℕ → ℕ → ℕ → Bool
 savedKeeps kind which first second =
     cond (eqb kind 0) (eqb which 0 && eqb first 0 && eqb second 0)
     (cond (eqb kind 1) (between 1 31 which && eqb second 0)
-    (cond (eqb kind 2) (ltb which tableSize) (cond (eqb kind 3) (eqb (which % 4) 0 && eqb second 0) false)))
+    (cond (eqb kind 2) (ltb which tableSize) (cond (eqb kind 3) (eqb (which % 4) 0 && ltb second distanceRoom) false)))
 
 abbrev pub restKeeps : (ℕ → ℕ) → Bool
 restKeeps word = eqb (word unusedBase) 0
@@ -49,7 +49,7 @@ abbrev pub savedRanged : Saved → Bool
 savedRanged Nothing = true
 savedRanged (Register n old) = between 1 31 n
 savedRanged (TlbRow i row) = ltb i tableSize
-savedRanged (RamWord place old) = eqb (place % 4) 0
+savedRanged (RamWord place old distance) = eqb (place % 4) 0 && ltb distance distanceRoom
 
 -- the records that have bytes: the arrays have their lengths, every number is a word or a byte, and the ranges
 pub record Ranged (r : Record) : Type 0 where

@@ -15,6 +15,10 @@ use Rattle.record.specs.declared.Record.{Record}
 use Rattle.record.specs.declared.Saved.{Saved}
 use Rattle.record.specs.declared.Saved.the-variants.{Nothing, Register, TlbRow, RamWord}
 
+-- the distance that is kept with a word of RAM has 16 bits
+abbrev pub distanceRoom : ℕ
+distanceRoom = 65536
+
 -- ---- a record as words
 
 -- the eight bytes are two words
@@ -26,7 +30,7 @@ abbrev pub savedWords : Saved → List ℕ
 savedWords Nothing = 0 ∷ 0 ∷ 0 ∷ 0 ∷ []
 savedWords (Register n old) = 1 ∷ n ∷ old ∷ 0 ∷ []
 savedWords (TlbRow i row) = 2 ∷ i ∷ rowWords row
-savedWords (RamWord place old) = 3 ∷ place ∷ old ∷ 0 ∷ []
+savedWords (RamWord place old distance) = 3 ∷ place ∷ old ∷ distance ∷ []
 
 abbrev pub unused : List ℕ
 unused = 0 ∷ []
@@ -69,7 +73,7 @@ paperAt word = record { mask = word (smallBase + 2); bytes = flat (toBytes 4) (w
 unfoldable pub savedAt : ℕ → ℕ → ℕ → ℕ → Saved
 savedAt kind which first second =
     cond (eqb kind 1) (Register which first)
-    (cond (eqb kind 2) (TlbRow which (rowOf first second)) (cond (eqb kind 3) (RamWord which first) Nothing))
+    (cond (eqb kind 2) (TlbRow which (rowOf first second)) (cond (eqb kind 3) (RamWord which first second) Nothing))
 
 abbrev pub printerAt : (ℕ → ℕ) → ℕ → Printer
 printerAt word i = printerFrom (5 * i + printersBase) word

@@ -77,9 +77,22 @@ fn saved_by(kind: u32, which: u32, first: u32, second: u32) -> Saved
     match kind {
         1 => Saved::Register(which, first),
         2 => Saved::TlbRow(which, row),
-        3 => Saved::RamWord(which, first),
+        3 => Saved::RamWord(which, first, second),
         _ => Saved::Nothing,
     }
+}
+
+// What the record that a slot holds saved: all that the index asks of it.
+pub fn saved(slot: &[u8]) -> Saved
+    requires { ⌜ length (now slot) ≡ 256 ⌝ }
+    ensures { λ r. ⌜ r ≡ recordOf (now (slot .entry)) .saved ⌝ }
+{
+    saved_by(
+        word(slot, 19),
+        word(slot, 20),
+        word(slot, 21),
+        word(slot, 22),
+    )
 }
 
 fn printer(slot: &[u8], i: usize) -> Printer
@@ -124,12 +137,7 @@ pub fn decode(slot: &[u8]) -> Record
     let timer = word(slot, 14);
     let pending = word(slot, 15);
     let paper = paper(slot);
-    let saved = saved_by(
-        word(slot, 19),
-        word(slot, 20),
-        word(slot, 21),
-        word(slot, 22),
-    );
+    let saved = saved(slot);
     let printers = printers(slot);
     Record {
         core,

@@ -29,7 +29,7 @@ pub fn saved_words(s: Saved) -> [u32; 4]
         Saved::Nothing => [0, 0, 0, 0],
         Saved::Register(n, old) => [1, n, old, 0],
         Saved::TlbRow(i, row) => [2, i, row.high, row.low],
-        Saved::RamWord(place, old) => [3, place, old, 0],
+        Saved::RamWord(place, old, distance) => [3, place, old, distance],
     }
 }
 

@@ -15,7 +15,7 @@ fn saved_keeps(kind: u32, which: u32, first: u32, second: u32) -> bool
         0 => (which == 0) & (first == 0) & (second == 0),
         1 => (1 <= which) & (which <= 31) & (second == 0),
         2 => which < 16,
-        3 => (which % 4 == 0) & (second == 0),
+        3 => (which % 4 == 0) & (second < 65536),
         _ => false,
     }
 }

@@ -15,8 +15,8 @@ pub enum Saved {
     Register(u32, u32),
     // its index and old words
     TlbRow(u32, Row),
-    // its place and old word
-    RamWord(u32, u32),
+    // its place and old word, and a distance of 16 bits that the run gives
+    RamWord(u32, u32, u32),
 }
 
 // All as it was before the step. The clock needs no room, since it goes down by one; on hand and next slot never come from a record.

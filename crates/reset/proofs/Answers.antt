@@ -7,20 +7,26 @@ use lib.ListN.{length}
 use borrow.Author.Tests.{eq-eqb, ne-eqb, leb-true}
 use Rattle.word.proofs.Cond.{both}
 use Rattle.rules.specs.Rules.{rangesKeep}
+use Rattle.answer.specs.Lent.{anyIndexFits}
 use Rattle.answer.specs.declared.Reason.the-variants.{NoReason}
-use Rattle.answer.specs.declared.Refusal.the-variants.{Image, Range}
+use Rattle.answer.specs.declared.Refusal.the-variants.{Image, Range, Index}
 use Rattle.answer.specs.declared.Answer.the-variants.{Done, Refused}
 use Rattle.reset.specs.Reset.{resetAnswer}
 
-module _ (b : List ℕ) (s d i : ℕ) where
-  pub says-bad-length : (length b ≡ 509 → ⊥) → resetAnswer b s d i ≡ Refused Image
-  says-bad-length h = rw (ne-eqb (length b) 509 h)
+module _ (image index : List ℕ) (scale delay installed : ℕ) where
+  pub says-bad-length : (length image ≡ 509 → ⊥) → resetAnswer image index scale delay installed ≡ Refused Image
+  says-bad-length h = rw (ne-eqb (length image) 509 h)
 
-  pub says-bad-range : length b ≡ 509 → rangesKeep s d i ≡ false → resetAnswer b s d i ≡ Refused Range
-  says-bad-range h r = rw (eq-eqb (length b) 509 h) (rw r)
+  pub says-bad-range : length image ≡ 509 → rangesKeep scale delay installed ≡ false → resetAnswer image index scale delay installed ≡ Refused Range
+  says-bad-range h r = rw (eq-eqb (length image) 509 h) (rw r)
 
-  pub says-done : length b ≡ 509 → rangesKeep s d i ≡ true → resetAnswer b s d i ≡ Done 0 NoReason
-  says-done h r = rw (eq-eqb (length b) 509 h) (rw r)
+  pub says-bad-index : length image ≡ 509 → rangesKeep scale delay installed ≡ true → anyIndexFits (length index) ≡ false →
+      resetAnswer image index scale delay installed ≡ Refused Index
+  says-bad-index h r f = rw (eq-eqb (length image) 509 h) (rw r (rw f))
+
+  pub says-done : length image ≡ 509 → rangesKeep scale delay installed ≡ true → anyIndexFits (length index) ≡ true →
+      resetAnswer image index scale delay installed ≡ Done 0 NoReason
+  says-done h r f = rw (eq-eqb (length image) 509 h) (rw r (rw f))
 
 pub record InRange (s d i : ℕ) : Type 0 where
   pub scale-low : 1 ≤ s

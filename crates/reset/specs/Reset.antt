@@ -16,8 +16,9 @@ use Rattle.state.specs.declared.machine.Cpu.{Cpu}
 use Rattle.state.specs.declared.machine.Board.{Board}
 use Rattle.state.specs.Layout.{imageLength, bytesOf}
 use Rattle.rules.specs.Rules.{rangesKeep}
+use Rattle.answer.specs.Lent.{anyIndexFits}
 use Rattle.answer.specs.declared.Reason.the-variants.{NoReason}
-use Rattle.answer.specs.declared.Refusal.the-variants.{Image, Range}
+use Rattle.answer.specs.declared.Refusal.the-variants.{Image, Range, Index}
 use Rattle.answer.specs.declared.Answer.{Answer}
 use Rattle.answer.specs.declared.Answer.the-variants.{Done, Refused}
 
@@ -72,20 +73,31 @@ resetMachine scale delay installed =
 
 -- ---- the call
 
--- the lowest number that applies: 5 for another length of the image, 6 for the ranges
-abbrev pub resetAnswer : List ℕ → ℕ → ℕ → ℕ → Answer
-resetAnswer image scale delay installed =
-    cond (eqb (length image) imageLength) (cond (rangesKeep scale delay installed) (Done 0 NoReason) (Refused Range)) (Refused Image)
+-- the lowest number that applies: 5 for another length of the image, 6 for the ranges, 10 for an index that fits no RAM (document 02, L6)
+abbrev pub resetAnswer : List ℕ → List ℕ → ℕ → ℕ → ℕ → Answer
+resetAnswer image index scale delay installed =
+    cond (eqb (length image) imageLength)
+    (cond (rangesKeep scale delay installed) (cond (anyIndexFits (length index)) (Done 0 NoReason) (Refused Index)) (Refused Range))
+    (Refused Image)
 
 -- a refusal writes nothing
 abbrev pub imageAfter : Answer → List ℕ → ℕ → ℕ → ℕ → List ℕ
 imageAfter (Done steps reason) image scale delay installed = bytesOf (resetMachine scale delay installed)
 imageAfter (Refused refusal) image scale delay installed = image
 
-abbrev pub resetImage : List ℕ → ℕ → ℕ → ℕ → List ℕ
-resetImage image scale delay installed = imageAfter (resetAnswer image scale delay installed) image scale delay installed
+abbrev pub resetImage : List ℕ → List ℕ → ℕ → ℕ → ℕ → List ℕ
+resetImage image index scale delay installed = imageAfter (resetAnswer image index scale delay installed) image scale delay installed
 
--- all that the call says: the answer, and every byte of the image
-pub record ResetIs (image : List ℕ) (scale delay installed : ℕ) (answer : Answer) (after : List ℕ) : Type 0 where
-  pub answer-is : answer ≡ resetAnswer image scale delay installed
-  pub image-is : after ≡ resetImage image scale delay installed
+-- "which reset empties"
+abbrev pub indexAfter : Answer → List ℕ → List ℕ
+indexAfter (Done steps reason) index = replicate (length index) 0
+indexAfter (Refused refusal) index = index
+
+abbrev pub resetIndex : List ℕ → List ℕ → ℕ → ℕ → ℕ → List ℕ
+resetIndex image index scale delay installed = indexAfter (resetAnswer image index scale delay installed) index
+
+-- all that the call says: the answer, and every byte of the image and of the index
+pub record ResetIs (image index : List ℕ) (scale delay installed : ℕ) (answer : Answer) (after emptied : List ℕ) : Type 0 where
+  pub answer-is : answer ≡ resetAnswer image index scale delay installed
+  pub image-is : after ≡ resetImage image index scale delay installed
+  pub index-is : emptied ≡ resetIndex image index scale delay installed

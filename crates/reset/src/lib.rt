@@ -1,12 +1,14 @@
 // Reset: the lent image becomes that of a machine that was just switched on.
 ghost use mathlib.Core.Path.{_≡_};
 ghost use Prim.Native.Nat.{ℕ};
+ghost use lib.ListN.{length, replicate};
 ghost use Rattle.word.specs.Lists.{tabulate};
 ghost use Rattle.word.specs.Map.{bit};
 ghost use Rattle.reset.specs.Reset.{freshPrinter, resetCpu, resetBoard, resetMachine, ResetIs};
 use answer::Answer;
 use answer::Reason;
 use answer::Refusal;
+use answer::lent::any_index_fits;
 use clock::Clock;
 use cp0::registers::Cp0;
 use printer::Line;
@@ -116,8 +118,17 @@ fn reset_machine(scale: u32, delay: u32, installed: u32) -> Machine
     }
 }
 
-pub fn reset(image: &mut [u8], scale: u64, delay: u64, installed: u64) -> Answer
-    ensures { λ r. ⌜ ResetIs (now (image .entry)) scale delay installed r (now (image .exit)) ⌝ }
+// No frame has a last change. A host that writes to RAM empties the journal, and the index with it.
+pub fn empty(index: &mut [u8])
+    ensures { λ _. ⌜ now (index .exit) ≡ replicate (length (now (index .entry))) 0 ⌝ }
+{
+    for i in 0..index.len() {
+        index[i] = 0;
+    }
+}
+
+pub fn reset(image: &mut [u8], index: &mut [u8], scale: u64, delay: u64, installed: u64) -> Answer
+    ensures { λ r. ⌜ ResetIs (now (image .entry)) (now (index .entry)) scale delay installed r (now (image .exit)) (now (index .exit)) ⌝ }
 {
     if image.len() != IMAGE {
         return Answer::Refused(Refusal::Image);
@@ -125,7 +136,11 @@ pub fn reset(image: &mut [u8], scale: u64, delay: u64, installed: u64) -> Answer
     if !ranges_keep(scale, delay, installed) {
         return Answer::Refused(Refusal::Range);
     }
+    if !any_index_fits(index.len()) {
+        return Answer::Refused(Refusal::Index);
+    }
     let m = reset_machine(scale as u32, delay as u32, installed as u32);
     encode(m, image);
+    empty(index);
     Answer::Done(0, Reason::NoReason)
 }

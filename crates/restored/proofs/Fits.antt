@@ -29,25 +29,26 @@ fit-of : (slot : List ℕ) (v : View) {r : Record} → recordOf slot ≡ r → k
 unfolding fitOf
 fit-of slot v is layout word places state = rw is (and-true (and-true (and-true layout word) places) state)
 
-module _ (roms : Roms) (w : World) (good : Good w) (whole : Whole (lentIn roms w)) where
+-- whatever distance it keeps
+module _ (distance : ℕ) (roms : Roms) (w : World) (good : Good w) (whole : Whole (lentIn roms w)) where
   same : SameLengths w (stepOf roms w)
   same = step-lengths roms w whole (omega (arith, good .typed .sized .tlb))
 
-  word-fits : ramPlaceFits (noteOf roms w .saved) (length (stepOf roms w .ram)) ≡ true
-  word-fits = rw (same .ram) (saved-good roms w good whole .place)
+  word-fits : ramPlaceFits (noteOf distance roms w .saved) (length (stepOf roms w .ram)) ≡ true
+  word-fits = rw (same .ram) (saved-good distance roms w good whole .place)
 
-  paper-fits : paperPlacesFit (noteOf roms w .paper .mask) (noteOf roms w .printers) (length (stepOf roms w .paper)) ≡ true
+  paper-fits : paperPlacesFit (noteOf distance roms w .paper .mask) (noteOf distance roms w .printers) (length (stepOf roms w .paper)) ≡ true
   unfolding noteOf
   paper-fits = rw (same .paper) (places-fit (w .board .line .printers) (w .paper))
 
   -- what is given back is the state before the step, which keeps the rules
-  state-kept : stateKeeps (givenBack (noteOf roms w) (viewOf (stepOf roms w))) (length (stepOf roms w .paper)) ≡ true
+  state-kept : stateKeeps (givenBack (noteOf distance roms w) (viewOf (stepOf roms w))) (length (stepOf roms w .paper)) ≡ true
   unfolding undoOf
   state-kept =
       rw (same .paper)
-      (ap (λ (x : World). stateKeeps (machineIn x noMark) (length (w .paper))) (undo-step roms w good whole) ∙ good .kept)
+      (ap (λ (x : World). stateKeeps (machineIn x noMark) (length (w .paper))) (undo-step distance roms w good whole) ∙ good .kept)
 
-  pub note-fits : fitOf (recordBytes (noteOf roms w)) (viewOf (stepOf roms w)) ≡ true
+  pub note-fits : fitOf (recordBytes (noteOf distance roms w)) (viewOf (stepOf roms w)) ≡ true
   note-fits =
-      fit-of (recordBytes (noteOf roms w)) (viewOf (stepOf roms w)) (recorded roms w good whole)
-      (encode-keeps (noteOf roms w) (note-ranged roms w good whole)) word-fits paper-fits state-kept
+      fit-of (recordBytes (noteOf distance roms w)) (viewOf (stepOf roms w)) (recorded distance roms w good whole)
+      (encode-keeps (noteOf distance roms w) (note-ranged distance roms w good whole)) word-fits paper-fits state-kept

@@ -1,4 +1,5 @@
--- The record that a step writes is as long as a slot, and its bytes say it: so what is undone by them is the step.
+-- The record that a step writes is as long as a slot, and its bytes say it, whatever distance it keeps: so what is undone by them is the step.
+use Prim.Native.Nat.{ℕ}
 use mathlib.Core.Path.{_≡_, ap, _∙_}
 use native.Mathlib.Omega.{arith}
 use lib.ListN.{length}
@@ -22,19 +23,19 @@ use Rattle.restored.proofs.Papers.{eight-bytes, bytes-small}
 use Rattle.restored.proofs.Saves.{SavedGood, saves}
 use Rattle.restored.proofs.Undoes.{within, undo-step}
 
-pub note-long : (roms : Roms) (w : World) → Good w → length (recordBytes (noteOf roms w)) ≡ 256
+pub note-long : (distance : ℕ) (roms : Roms) (w : World) → Good w → length (recordBytes (noteOf distance roms w)) ≡ 256
 unfolding noteOf
-note-long roms w good = length-bytes (noteOf roms w) (good .typed .sized .printers)
+note-long distance roms w good = length-bytes (noteOf distance roms w) (good .typed .sized .printers)
 
-module _ (roms : Roms) (w : World) (good : Good w) (whole : Whole (lentIn roms w)) where
-  pub saved-good : SavedGood (noteOf roms w .saved) (length (w .ram))
+module _ (distance : ℕ) (roms : Roms) (w : World) (good : Good w) (whole : Whole (lentIn roms w)) where
+  pub saved-good : SavedGood (noteOf distance roms w .saved) (length (w .ram))
   unfolding noteOf
   saved-good =
       let s = good-sound w good in
       let inside : Within (length (w .ram)) 16 (effectIn roms w) = rw (good .typed .sized .tlb) at (within roms w good whole) in
-      saves (w .cpu .regs) (w .cpu .tlb) (w .ram) (s .regs) (s .rows) (whole .ram .few) (s .ram) (effectIn roms w) inside
+      saves distance (w .cpu .regs) (w .cpu .tlb) (w .ram) (s .regs) (s .rows) (whole .ram .few) (s .ram) (effectIn roms w) inside
 
-  note-parts : Parts (noteOf roms w)
+  note-parts : Parts (noteOf distance roms w)
   unfolding noteOf
   note-parts =
       let s = good-sound w good in
@@ -52,11 +53,11 @@ module _ (roms : Roms) (w : World) (good : Good w) (whole : Whole (lentIn roms w
         paper = fits-keeps _ ps _ (printer.note-fits ps (w .paper));
       }
 
-  pub note-ranged : Ranged (noteOf roms w)
-  note-ranged = ranged (noteOf roms w) note-parts
+  pub note-ranged : Ranged (noteOf distance roms w)
+  note-ranged = ranged (noteOf distance roms w) note-parts
 
-  pub recorded : recordOf (recordBytes (noteOf roms w)) ≡ noteOf roms w
-  recorded = decode-encode (noteOf roms w) note-ranged
+  pub recorded : recordOf (recordBytes (noteOf distance roms w)) ≡ noteOf distance roms w
+  recorded = decode-encode (noteOf distance roms w) note-ranged
 
-  pub undoes : undoOf (recordOf (recordBytes (noteOf roms w))) (stepOf roms w) ≡ w
-  undoes = ap (λ (r : Record). undoOf r (stepOf roms w)) recorded ∙ undo-step roms w good whole
+  pub undoes : undoOf (recordOf (recordBytes (noteOf distance roms w))) (stepOf roms w) ≡ w
+  undoes = ap (λ (r : Record). undoOf r (stepOf roms w)) recorded ∙ undo-step distance roms w good whole

@@ -1,4 +1,4 @@
--- Undoing the record of an effect gives each part back that the effect changed, effect by effect.
+-- Undoing the record of an effect gives each part back that the effect changed, effect by effect; whatever distance the record keeps.
 use Prim.Native.Nat.{ℕ}
 use mathlib.Core.Path.{_≡_, refl, _∙_}
 use mathlib.Core.List.{List}
@@ -24,8 +24,8 @@ use Rattle.restored.proofs.Cells as cells
 set-back : {A : Type 0} (l : List A) (i : ℕ) (new d : A) → set (set l i new) i (getD l i d) ≡ l
 set-back l i new d = set-set l i new (getD l i d) ∙ set-getD l i d
 
-module _ (regs : List ℕ) (t : List Row) (ram : List ℕ) where
-  pub regs-back : (b : Bus) (printers : List Printer) (e : Effect) → regsBack (savedOf e regs t ram) (regsAfter b printers e regs) ≡ regs
+module _ (distance : ℕ) (regs : List ℕ) (t : List Row) (ram : List ℕ) where
+  pub regs-back : (b : Bus) (printers : List Printer) (e : Effect) → regsBack (savedOf distance e regs t ram) (regsAfter b printers e regs) ≡ regs
   regs-back b printers Nothing = refl
   regs-back b printers (Register d word) = set-back regs d word 0
   regs-back b printers (HiLo hi lo) = refl
@@ -37,7 +37,7 @@ module _ (regs : List ℕ) (t : List Row) (ram : List ℕ) where
   regs-back b printers (DeviceStore offset word) = refl
   regs-back b printers (Raise e) = refl
 
-  pub rows-back : (e : Effect) → rowsBack (savedOf e regs t ram) (rowsAfter e t) ≡ t
+  pub rows-back : (e : Effect) → rowsBack (savedOf distance e regs t ram) (rowsAfter e t) ≡ t
   rows-back Nothing = refl
   rows-back (Register d word) = refl
   rows-back (HiLo hi lo) = refl
@@ -50,7 +50,7 @@ module _ (regs : List ℕ) (t : List Row) (ram : List ℕ) where
   rows-back (Raise e) = refl
 
   -- of a word of RAM that there is
-  pub ram-back : (rows : ℕ) (e : Effect) → Within (length ram) rows e → Below 256 ram → ramBack (savedOf e regs t ram) (ramAfter e ram) ≡ ram
+  pub ram-back : (rows : ℕ) (e : Effect) → Within (length ram) rows e → Below 256 ram → ramBack (savedOf distance e regs t ram) (ramAfter e ram) ≡ ram
   ram-back rows Nothing i bytes = refl
   ram-back rows (Register d word) i bytes = refl
   ram-back rows (HiLo hi lo) i bytes = refl

@@ -1,8 +1,9 @@
 -- What a step saves of the place that it overwrites is in range and made of words, effect by effect.
-use Prim.Native.Nat.{ℕ, _^_, _<_}
+use Prim.Native.Nat.{ℕ, _%_, _^_, _<_}
 use mathlib.Core.Path.{_≡_, refl}
 use mathlib.Core.Bool.{true}
 use mathlib.Core.List.{List}
+use native.Mathlib.Nat.{mod-lt}
 use native.Mathlib.Omega.{arith}
 use borrow.Author.Tests.{le-leb, lt-ltb, eq-eqb}
 use lib.ListN.{length, getD}
@@ -18,7 +19,7 @@ use Rattle.decide.specs.declared.effect.Effect.{Effect}
 use Rattle.decide.specs.declared.effect.Effect.the-variants.{Nothing, Register, HiLo, Control, Entry, TlbRow, Ram, DeviceLoad, DeviceStore, Raise}
 use Rattle.record.specs.declared.Saved.{Saved}
 use Rattle.record.specs.declared.Saved.the-variants as saved
-use Rattle.record.specs.Layout.{savedWords}
+use Rattle.record.specs.Layout.{distanceRoom, savedWords}
 use Rattle.record.specs.Keeps.{savedRanged}
 use Rattle.step.specs.Note.{savedOf}
 use Rattle.good.proofs.Belows.{below-any, each-below}
@@ -31,9 +32,9 @@ pub record SavedGood (s : Saved) (room : ℕ) : Type 0 where
   pub words : Below (2 ^ 32) (savedWords s)
   pub place : ramPlaceFits s room ≡ true
 
-module _ (regs : List ℕ) (t : List Row) (ram : List ℕ) (registers : Registers regs) (table : Table t) (few : length ram < 2 ^ 32) (bytes : Below 256 ram) where
+module _ (distance : ℕ) (regs : List ℕ) (t : List Row) (ram : List ℕ) (registers : Registers regs) (table : Table t) (few : length ram < 2 ^ 32) (bytes : Below 256 ram) where
   abbrev Saves : Effect → Type 0
-  Saves e = SavedGood (savedOf e regs t ram) (length ram)
+  Saves e = SavedGood (savedOf distance e regs t ram) (length ram)
 
   nothing : SavedGood saved.Nothing (length ram)
   nothing = record { ranged = refl; words = below-numerals (savedWords saved.Nothing) refl; place = refl }
@@ -65,9 +66,10 @@ module _ (regs : List ℕ) (t : List Row) (ram : List ℕ) (registers : Register
   saves (TlbRow k high low) i = table-row k i
   saves (Ram at word) i =
       let old : loadAt 4 ram at < 2 ^ 32 = load-small 4 ram at (i .1) bytes in
+      let short : distance % distanceRoom < distanceRoom = mod-lt distance (omega arith) in
       record {
-        ranged = eq-eqb _ 0 (i .0);
-        words = each-below (savedWords (saved.RamWord at (loadAt 4 ram at))) (omega arith);
+        ranged = and-true (eq-eqb _ 0 (i .0)) (lt-ltb _ distanceRoom short);
+        words = each-below (savedWords (saved.RamWord at (loadAt 4 ram at) (distance % distanceRoom))) (omega arith);
         place = le-leb _ (length ram) (i .1);
       }
   saves (DeviceLoad d offset) i = register d (i .0) (i .1)

@@ -1,4 +1,5 @@
 -- UNDOING THE RECORD OF A STEP AFTER THAT STEP GIVES THE STATE BEFORE IT.
+use Prim.Native.Nat.{ℕ}
 use mathlib.Core.Path.{_≡_, ap, _∙_}
 use native.Mathlib.Omega.{arith}
 use lib.ListN.{length}
@@ -25,18 +26,19 @@ paper-back : (w : World) →
     restoredPaper (savedPaperOf (w .board .line .printers) (w .paper)) (w .board .line .printers) (printer.tickedOf (printingOf (w .board) (w .paper)) .paper) ≡ w .paper
 paper-back w = ap (λ (s : printer.Printing). s .paper) (undo-tick (printingOf (w .board) (w .paper)))
 
-module _ (roms : Roms) (w : World) (good : Good w) (whole : Whole (lentIn roms w)) where
+-- what the effect does is in range
+pub within : (roms : Roms) (w : World) → Good w → Whole (lentIn roms w) → Within (length (w .ram)) (length (w .cpu .tlb)) (effectIn roms w)
+within roms w good whole = step-within roms w whole (omega (arith, good .typed .sized .tlb))
+
+-- whatever distance the record keeps
+module _ (distance : ℕ) (roms : Roms) (w : World) (good : Good w) (whole : Whole (lentIn roms w)) where
   abbrev ticked : World
   ticked = tickOf w
 
   abbrev sizes : Sizes
   sizes = sizesOf (lentIn roms ticked)
 
-  -- what the effect does is in range
-  pub within : Within (length (w .ram)) (length (w .cpu .tlb)) (effectIn roms w)
-  within = step-within roms w whole (omega (arith, good .typed .sized .tlb))
-
-  parts-back : undoOf (noteOf roms w) (paired (decisionIn roms ticked) (together sizes (effectIn roms w) ticked)) ≡ w
+  parts-back : undoOf (noteOf distance roms w) (paired (decisionIn roms ticked) (together sizes (effectIn roms w) ticked)) ≡ w
   unfolding undoOf noteOf tickOf
   parts-back =
       let e = effectIn roms w in
@@ -46,16 +48,16 @@ module _ (roms : Roms) (w : World) (good : Good w) (whole : Whole (lentIn roms w
       record {
         cpu =
             record {
-              regs = regs-back (w .cpu .regs) (w .cpu .tlb) (w .ram) (busOf sizes b) (b .line .printers) e i;
+              regs = regs-back distance (w .cpu .regs) (w .cpu .tlb) (w .ram) (busOf sizes b) (b .line .printers) e i;
               core = w .cpu .core;
-              tlb = rows-back (w .cpu .regs) (w .cpu .tlb) (w .ram) e i;
+              tlb = rows-back distance (w .cpu .regs) (w .cpu .tlb) (w .ram) e i;
             };
         board = record { clock = clock i; settings = settings-of e b i; line = w .board .line };
-        ram = ram-back (w .cpu .regs) (w .cpu .tlb) (w .ram) (length (w .cpu .tlb)) e within (good .ram) i;
+        ram = ram-back distance (w .cpu .regs) (w .cpu .tlb) (w .ram) (length (w .cpu .tlb)) e (within roms w good whole) (good .ram) i;
         paper = paper-back w i;
       }
 
-  pub undo-step : undoOf (noteOf roms w) (stepOf roms w) ≡ w
+  pub undo-step : undoOf (noteOf distance roms w) (stepOf roms w) ≡ w
   unfolding stepOf
   undo-step =
-      ap (λ (x : World). undoOf (noteOf roms w) (paired (decisionIn roms ticked) x)) (by-parts sizes (effectIn roms w) ticked) ∙ parts-back
+      ap (λ (x : World). undoOf (noteOf distance roms w) (paired (decisionIn roms ticked) x)) (by-parts sizes (effectIn roms w) ticked) ∙ parts-back

@@ -36,6 +36,7 @@ module _ (m : Machine) (eight : length (m .board .line .printers) ≡ 8) (sixtee
         whole = fits .whole;
         short = fits .short;
         ready = fits .ready;
+        framed = fits .framed;
         zero = fits .zero;
       })
 

@@ -26,6 +26,8 @@ use Rattle.step.specs.Note.{noteOf}
 use Rattle.turn.specs.Buffers.{Beside, romsIn}
 use Rattle.turn.specs.Turn.{worldHeld, TurnIs}
 use Rattle.turn.specs.declared.Parts.{Parts}
+use Rattle.indexed.specs.Ahead.{tagOf, onwardOf}
+use Rattle.marks.specs.Index.{distanceIn, ahead}
 use Rattle.run.specs.Run.{forward}
 use Rattle.run.specs.Spin.{configOf}
 
@@ -38,9 +40,9 @@ still-whole long w =
     }
 
 -- a record is as long as a slot
-note-long : (roms : Roms) (w : World) → length (w .board .line .printers) ≡ 8 → length (recordBytes (noteOf roms w)) ≡ 256
+note-long : (distance : ℕ) (roms : Roms) (w : World) → length (w .board .line .printers) ≡ 8 → length (recordBytes (noteOf distance roms w)) ≡ 256
 unfolding noteOf
-note-long roms w eight = length-bytes (noteOf roms w) eight
+note-long distance roms w eight = length-bytes (noteOf distance roms w) eight
 
 pub in-rows : (room rows : ℕ) {i high low : ℕ} {e : Effect} → e ≡ TlbRow i high low → Within room rows e → i < rows
 in-rows room rows is w = rw is at w
@@ -65,6 +67,10 @@ module _ (n budget : ℕ) (stop : Bool) {settings : Settings} {p p′ : Parts} {
   abbrev there : List Row → Config F
   there rows = configOf roms settings (withRows rows p′) b′
 
+  -- what the record keeps, of n slots
+  abbrev distance : ℕ → ℕ
+  distance n = distanceIn (tagOf (ahead roms) n (ringOf (p .mark) (b .journal)) before (b .index))
+
   -- the journal is ready for the next turn
   pub ready : length (b′ .journal) ≡ length (b .journal) → Ready (b .journal) (p .mark) → Ready (b′ .journal) (p′ .mark)
   ready long was =
@@ -73,20 +79,23 @@ module _ (n budget : ℕ) (stop : Bool) {settings : Settings} {p p′ : Parts} {
         few = rw long (was .few);
         sound =
             rw (same, turned .ring-is)
-            (sound-written 256 (slotsOf (b .journal)) (recordBytes (noteOf roms before)) (ringOf (p .mark) (b .journal))
-            (note-long roms before (length-printers (p .words))) (was .sound));
+            (sound-written 256 (slotsOf (b .journal)) (recordBytes (noteOf (distance (slotsOf (b .journal))) roms before)) (ringOf (p .mark) (b .journal))
+            (note-long (distance (slotsOf (b .journal))) roms before (length-printers (p .words))) (was .sound));
       }
 
   module _ (same : slotsOf (b .journal) ≡ n) {known : Effect} (told : e ≡ known) (rows : List Row) (put : p′ .rows ≡ rows) where
     state-is : there rows .state ≡ stepOf roms before
     state-is = ap (λ (l : List Row). worldHeld (withRows l p′) settings b′) (sym put) ∙ turned .world-is
 
-    ring-is : there rows .ring ≡ written 256 n (recordBytes (noteOf roms before)) (ringOf (p .mark) (b .journal))
-    ring-is = turned .ring-is ∙ ap (λ (k : ℕ). written 256 k (recordBytes (noteOf roms before)) (ringOf (p .mark) (b .journal))) same
+    side-is : there rows .side ≡ onwardOf (ahead roms) n (here .ring) before (b .index)
+    side-is = turned .index-is ∙ ap (λ (k : ℕ). onwardOf (ahead roms) k (here .ring) before (b .index)) same
+
+    ring-is : there rows .ring ≡ written 256 n (recordBytes (noteOf (distance n) roms before)) (ringOf (p .mark) (b .journal))
+    ring-is = turned .ring-is ∙ ap (λ (k : ℕ). written 256 k (recordBytes (noteOf (distance k) roms before)) (ringOf (p .mark) (b .journal))) same
 
     advances : there rows ≡ advance F n here
     unfolding advance
-    advances = rw (state-is, ring-is)
+    advances = rw (state-is, side-is, ring-is)
 
     raises : raisesOf roms before ≡ enters known
     raises = ap enters (sym (turned .effect-is) ∙ told)

@@ -17,6 +17,7 @@ use Rattle.decide.specs.Lent.{Whole}
 use Rattle.held.specs.Board.{boardOf, Told}
 use Rattle.held.specs.Core.{coreIn}
 use Rattle.step.specs.World.{Roms}
+use Rattle.marks.specs.Steps.{FitsRam}
 use Rattle.turn.specs.Buffers.{Beside, romsIn}
 use Rattle.turn.specs.Turn.{lentFrom, worldHeld}
 use Rattle.turn.specs.declared.Parts.{Parts}
@@ -45,7 +46,7 @@ machineOf p settings =
     }
 
 abbrev pub configOf : (roms : Roms) → Settings → Parts → Beside → Config (forward roms)
-configOf roms settings p b = record { state = worldHeld p settings b; ring = ringOf (p .mark) (b .journal) }
+configOf roms settings p b = record { state = worldHeld p settings b; side = b .index; ring = ringOf (p .mark) (b .journal) }
 
 pub record Ready (p : Parts) (b : Beside) : Type 0 where
   pub fourteen : length (p .core) ≡ 14
@@ -54,6 +55,7 @@ pub record Ready (p : Parts) (b : Beside) : Type 0 where
   pub whole : Whole (lentFrom b)
   pub short : length (b .paper) ≤ 65536
   pub ready : slots.Ready (b .journal) (p .mark)
+  pub framed : FitsRam (b .ram) (b .index)
   pub zero : HoldsZero (p .regs)
 
 -- b′ is what is lent as the loop leaves it

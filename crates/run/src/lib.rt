@@ -101,15 +101,16 @@ fn spin(
     ram: &mut [u8],
     paper: &mut [u8],
     journal: &mut [u8],
+    index: &mut [u8],
     budget: u32,
     stop: bool,
 ) -> Spun
-    requires { ⌜ Ready parts (besideOf (now execution) (now bootstrap) (now ram) (now paper) (now journal)) ⌝ }
+    requires { ⌜ Ready parts (besideOf (now execution) (now bootstrap) (now ram) (now paper) (now journal) (now index)) ⌝ }
     ensures { λ r. ⌜
         SpinIs budget stop settings parts
-        (besideOf (now (execution .entry)) (now (bootstrap .entry)) (now (ram .entry)) (now (paper .entry)) (now (journal .entry)))
+        (besideOf (now (execution .entry)) (now (bootstrap .entry)) (now (ram .entry)) (now (paper .entry)) (now (journal .entry)) (now (index .entry)))
         r
-        (besideOf (now (execution .entry)) (now (bootstrap .entry)) (now (ram .exit)) (now (paper .exit)) (now (journal .exit)))
+        (besideOf (now (execution .entry)) (now (bootstrap .entry)) (now (ram .exit)) (now (paper .exit)) (now (journal .exit)) (now (index .exit)))
         ⌝ }
 {
     let mut core = parts.core;
@@ -138,7 +139,16 @@ fn spin(
             break look.why;
         }
         limit = look.limit;
-        let after = start(&mut core, held, settings, &mut words, paper, journal, mark);
+        let after = start(
+            &mut core,
+            held,
+            settings,
+            &mut words,
+            paper,
+            journal,
+            mark,
+            index,
+        );
         let now = core_in(&core);
         let d = decide(now, &regs, rows, execution, bootstrap, ram);
         let effect = d.effect;
@@ -156,6 +166,7 @@ fn spin(
             ram,
             journal,
             mark,
+            index,
         );
         held = turned.held;
         mark = turned.mark;
@@ -202,15 +213,16 @@ pub fn run(
     ram: &mut [u8],
     paper: &mut [u8],
     journal: &mut [u8],
+    index: &mut [u8],
     budget: u32,
     stop: bool,
 ) -> Outcome
-    requires { ⌜ Fits (besideOf (now execution) (now bootstrap) (now ram) (now paper) (now journal)) machine ⌝ }
+    requires { ⌜ Fits (besideOf (now execution) (now bootstrap) (now ram) (now paper) (now journal) (now index)) machine ⌝ }
     ensures { λ r. ⌜
         RunIs budget stop machine
-        (besideOf (now (execution .entry)) (now (bootstrap .entry)) (now (ram .entry)) (now (paper .entry)) (now (journal .entry)))
+        (besideOf (now (execution .entry)) (now (bootstrap .entry)) (now (ram .entry)) (now (paper .entry)) (now (journal .entry)) (now (index .entry)))
         r
-        (besideOf (now (execution .entry)) (now (bootstrap .entry)) (now (ram .exit)) (now (paper .exit)) (now (journal .exit)))
+        (besideOf (now (execution .entry)) (now (bootstrap .entry)) (now (ram .exit)) (now (paper .exit)) (now (journal .exit)) (now (index .exit)))
         ⌝ }
 {
     let board = machine.board;
@@ -224,6 +236,7 @@ pub fn run(
         ram,
         paper,
         journal,
+        index,
         budget,
         stop,
     );

@@ -6,7 +6,7 @@ use session::work::Settings;
 use session::work::Work;
 use session::work::Worked;
 
-// Document 01's number; 0 where nothing is refused.
+// The number of documents 01 and 02; 0 where nothing is refused.
 pub fn refused(answer: Answer) -> u64 {
     packed(answer) % 0x100
 }
@@ -25,14 +25,14 @@ fn stop(work: Work) -> u64 {
     }
 }
 
-fn was_reset(image: &mut [u8], s: Settings) -> u64 {
-    refused(reset::reset(image, s.scale, s.delay, s.installed))
+fn was_reset(image: &mut [u8], index: &mut [u8], s: Settings) -> u64 {
+    refused(reset::reset(image, index, s.scale, s.delay, s.installed))
 }
 
 // What comes before the run: the number that it is refused with, or 0.
-fn prepared(image: &mut [u8], work: Work) -> u64 {
+fn prepared(image: &mut [u8], index: &mut [u8], work: Work) -> u64 {
     match work {
-        Work::Make(settings) => was_reset(image, settings),
+        Work::Make(settings) => was_reset(image, index, settings),
         _ => 0,
     }
 }
@@ -72,9 +72,10 @@ pub fn run(
     ram: &mut [u8],
     paper: &mut [u8],
     journal: &mut [u8],
+    index: &mut [u8],
     work: Work,
 ) -> Worked {
-    let number = prepared(image, work);
+    let number = prepared(image, index, work);
     if number != 0 {
         return Worked::Refused(number);
     }
@@ -87,6 +88,7 @@ pub fn run(
         ram,
         paper,
         journal,
+        index,
         budget,
         stop,
     );

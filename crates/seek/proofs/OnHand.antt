@@ -8,9 +8,9 @@ use borrow.Author.Tests.{leb-true, ltb-true}
 use lib.Dec.{leb, ltb}
 use lib.ListN.{length, take, drop, getD, length-map}
 use Rattle.word.proofs.Cond.{both}
-use Rattle.word.proofs.Lists.{length-tabulate, getD-tabulate}
-use Rattle.ring.specs.Slots.{slot, slotBack}
+use Rattle.ring.specs.Slots.{Ring, slot, slotBack}
 use Rattle.ring.proofs.Slots.{slot-part, length-slot}
+use Rattle.ring.proofs.OnRing.{records-length, record-at}
 use Rattle.journal.specs.Journal.{slotsOf}
 use Rattle.seek.specs.OnHand.{fitsIn, Fits, kthOf, heldOf}
 
@@ -34,13 +34,13 @@ map-at f (x ∷ xs) zero d e h = refl
 map-at f (x ∷ xs) (suc k) d e h = map-at f xs k d e (omega arith)
 
 module _ {A : Type 0} (f : List ℕ → A) (journal : List ℕ) (hand next : ℕ) where
-  abbrev kth : ℕ → List ℕ
-  kth i = kthOf journal next (suc i)
+  abbrev ring : Ring
+  ring = record { bytes = journal; hand = hand; next = next }
 
   pub held-long : length (map f (heldOf journal hand next)) ≡ hand
-  held-long = length-map (heldOf journal hand next) f ∙ length-tabulate hand kth
+  held-long = length-map (heldOf journal hand next) f ∙ records-length 256 (slotsOf journal) ring
 
   pub held-at : (i : ℕ) (d : A) → i < hand → getD (map f (heldOf journal hand next)) i d ≡ f (kthOf journal next (suc i))
   held-at i d h =
-      map-at f (heldOf journal hand next) i d [] (omega (arith, length-tabulate hand kth))
-      ∙ ap f (getD-tabulate hand kth i [] h)
+      map-at f (heldOf journal hand next) i d [] (omega (arith, records-length 256 (slotsOf journal) ring))
+      ∙ ap f (record-at 256 (slotsOf journal) ring i h)

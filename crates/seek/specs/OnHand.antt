@@ -1,20 +1,15 @@
 -- The records on hand, the newest first.
-use Prim.Native.Nat.{ℕ, suc, _≤_, _<_}
+use Prim.Native.Nat.{ℕ, _≤_, _<_}
 use mathlib.Core.Bool.{Bool, cond, _&&_}
 use mathlib.Core.List.{List, []}
 use lib.Dec.{leb, ltb}
-use Rattle.word.specs.Lists.{tabulate}
 use Rattle.word.specs.Sizes.{recordSize}
-use Rattle.ring.specs.Slots.{Ring, slot, slotBack}
+use Rattle.ring.specs.Slots.{slot, slotBack, recordsIn}
 use Rattle.journal.specs.Journal.{slotsOf}
 
 -- the two numbers fit the journal: no more on hand than it has slots, and the next is one of these
 abbrev pub fitsIn : List ℕ → ℕ → ℕ → Bool
 fitsIn journal hand next = leb hand (slotsOf journal) && ltb next (slotsOf journal)
-
--- of a ring of n slots
-abbrev pub recordsIn : ℕ → ℕ → Ring → List (List ℕ)
-recordsIn size n g = tabulate (g .hand) (λ (i : ℕ). slot size (g .bytes) (slotBack n (g .next) (suc i)))
 
 -- of the journal that is lent
 abbrev pub heldOf : List ℕ → ℕ → ℕ → List (List ℕ)

@@ -20,7 +20,7 @@ abbrev pub writesIn : Saved → List Write
 writesIn saved.Nothing = []
 writesIn (saved.Register n old) = []
 writesIn (saved.TlbRow i row) = []
-writesIn (saved.RamWord place old) = record { place = place; old = old } ∷ []
+writesIn (saved.RamWord place old distance) = record { place = place; old = old } ∷ []
 
 abbrev pub writesOf : List ℕ → List Write
 writesOf slot = writesIn (recordOf slot .saved)

@@ -1,6 +1,7 @@
 // What a turn asks of the machine, and what came of it.
 use forms::kinds::Fresh;
 use message::blame::Culprit;
+use message::blame::Frame;
 
 // Whose last change is looked for, and whether the machine is to stay before that step.
 pub struct Asked {
@@ -42,12 +43,13 @@ pub enum Worked {
     // The steps before the one that meets two matches.
     TwoMatches(u64),
     TakenBack(u64),
-    Found(Culprit),
-    Stood(Culprit),
-    // The address, what it holds, and the steps on hand.
-    NoChange(u64, u64, u64),
+    // The step, and the last change in the word's frame; Stood: before that step.
+    Found(Culprit, Frame),
+    Stood(Culprit, Frame),
+    // The address, what it holds, the steps on hand, and its frame.
+    NoChange(u64, u64, u64, Frame),
     // The bytes of RAM.
     NoWord(u64),
-    // Document 01's number.
+    // By the number of documents 01 and 02.
     Refused(u64),
 }

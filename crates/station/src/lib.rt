@@ -1,4 +1,4 @@
 // The session of a technician with one machine. The C side of include/station.h calls one turn after the other; a turn takes one line, or at most 100,000 steps.
 mod compare; // the call for C that compares two stations
 mod panel; // one turn: the call for C
-mod version; // the call for C that converts an image of the version before
+mod version; // the calls for C that convert a station of an earlier version

@@ -18,6 +18,7 @@ pub extern "C" fn station_panel_turn(
     ram: &mut [u8],
     paper: &mut [u8],
     journal: &mut [u8],
+    index: &mut [u8],
 ) -> u64 {
     let plan = planned(session, event, input);
     let work = plan.work;
@@ -30,6 +31,7 @@ pub extern "C" fn station_panel_turn(
         ram,
         paper,
         journal,
+        index,
     );
     let turn = plan.turn;
     let turn = after(session, worked, turn);

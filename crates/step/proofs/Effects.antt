@@ -45,14 +45,14 @@ by-parts sizes (DeviceStore offset word) w = refl
 by-parts sizes (Raise e) w = refl
 
 -- what is saved with the old row is what is saved of the table: the effect's row is one of the table's
-pub saved-row : (room : ℕ) (regs : List ℕ) (t : List Row) (ram : List ℕ) (e : Effect) → Within room (length t) e → savedWith e regs (oldRow e t) ram ≡ savedOf e regs t ram
-saved-row room regs t ram Nothing w = refl
-saved-row room regs t ram (Register d word) w = refl
-saved-row room regs t ram (HiLo hi lo) w = refl
-saved-row room regs t ram (Control r word) w = refl
-saved-row room regs t ram (Entry row) w = refl
-saved-row room regs t ram (TlbRow i high low) w = ap (saved.TlbRow i) (read-row t i w)
-saved-row room regs t ram (Ram at word) w = refl
-saved-row room regs t ram (DeviceLoad d offset) w = refl
-saved-row room regs t ram (DeviceStore offset word) w = refl
-saved-row room regs t ram (Raise e) w = refl
+pub saved-row : (distance room : ℕ) (regs : List ℕ) (t : List Row) (ram : List ℕ) (e : Effect) → Within room (length t) e → savedWith distance e regs (oldRow e t) ram ≡ savedOf distance e regs t ram
+saved-row distance room regs t ram Nothing w = refl
+saved-row distance room regs t ram (Register d word) w = refl
+saved-row distance room regs t ram (HiLo hi lo) w = refl
+saved-row distance room regs t ram (Control r word) w = refl
+saved-row distance room regs t ram (Entry row) w = refl
+saved-row distance room regs t ram (TlbRow i high low) w = ap (saved.TlbRow i) (read-row t i w)
+saved-row distance room regs t ram (Ram at word) w = refl
+saved-row distance room regs t ram (DeviceLoad d offset) w = refl
+saved-row distance room regs t ram (DeviceStore offset word) w = refl
+saved-row distance room regs t ram (Raise e) w = refl

@@ -1,5 +1,5 @@
 -- The tick and the effect by parts, for functions that hold only some of them: proofs/Ticks.antt and Effects.antt show that together they are `tickOf` and `effectOf`.
-use Prim.Native.Nat.{ℕ}
+use Prim.Native.Nat.{ℕ, _%_}
 use mathlib.Core.Bool.{Bool, cond}
 use mathlib.Core.List.{List}
 use lib.ListN.{getD, set}
@@ -18,6 +18,7 @@ use Rattle.tlb.specs.Entry.{noRow, readAt}
 use Rattle.tlb.specs.declared.Row.{Row}
 use Rattle.record.specs.declared.Saved.{Saved}
 use Rattle.record.specs.declared.Saved.the-variants as saved
+use Rattle.record.specs.Layout.{distanceRoom}
 use Rattle.state.specs.Layout.{rowOf}
 use Rattle.state.specs.Slot.{inSlot, returnOf}
 use Rattle.state.specs.declared.machine.Core.{Core}
@@ -106,17 +107,17 @@ oldRow (DeviceStore offset word) t = noRow
 oldRow (Raise e) t = noRow
 
 -- what a record keeps of the effect, given that row
-abbrev pub savedWith : Effect → List ℕ → Row → List ℕ → Saved
-savedWith Nothing regs old ram = saved.Nothing
-savedWith (Register d word) regs old ram = saved.Register d (getD regs d 0)
-savedWith (HiLo hi lo) regs old ram = saved.Nothing
-savedWith (Control r word) regs old ram = saved.Nothing
-savedWith (Entry row) regs old ram = saved.Nothing
-savedWith (TlbRow i high low) regs old ram = saved.TlbRow i old
-savedWith (Ram at word) regs old ram = saved.RamWord at (loadAt 4 ram at)
-savedWith (DeviceLoad d offset) regs old ram = saved.Register d (getD regs d 0)
-savedWith (DeviceStore offset word) regs old ram = saved.Nothing
-savedWith (Raise e) regs old ram = saved.Nothing
+abbrev pub savedWith : ℕ → Effect → List ℕ → Row → List ℕ → Saved
+savedWith distance Nothing regs old ram = saved.Nothing
+savedWith distance (Register d word) regs old ram = saved.Register d (getD regs d 0)
+savedWith distance (HiLo hi lo) regs old ram = saved.Nothing
+savedWith distance (Control r word) regs old ram = saved.Nothing
+savedWith distance (Entry row) regs old ram = saved.Nothing
+savedWith distance (TlbRow i high low) regs old ram = saved.TlbRow i old
+savedWith distance (Ram at word) regs old ram = saved.RamWord at (loadAt 4 ram at) (distance % distanceRoom)
+savedWith distance (DeviceLoad d offset) regs old ram = saved.Register d (getD regs d 0)
+savedWith distance (DeviceStore offset word) regs old ram = saved.Nothing
+savedWith distance (Raise e) regs old ram = saved.Nothing
 
 abbrev pub boardAfter : Effect → Board → Board
 boardAfter Nothing b = b

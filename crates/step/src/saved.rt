@@ -36,15 +36,19 @@ fn register_at(regs: &[u32; 32], d: u32) -> u32
     regs[at]
 }
 
-pub fn saved(effect: Effect, regs: &[u32; 32], old: Row, ram: &[u8]) -> Saved
+// `distance` goes into the record of a RAM word alone, and only 16 bits of it: steps on hand are never further apart.
+pub fn saved(effect: Effect, regs: &[u32; 32], old: Row, ram: &[u8], distance: u64) -> Saved
     requires { ⌜ Within (length (now ram)) 16 effect ⌝ }
-    ensures { λ r. ⌜ r ≡ savedWith effect (now (regs .entry)) old (now (ram .entry)) ⌝ }
+    ensures { λ r. ⌜ r ≡ savedWith distance effect (now (regs .entry)) old (now (ram .entry)) ⌝ }
 {
     match effect {
         Effect::Register(d, _) => Saved::Register(d, register_at(regs, d)),
         Effect::DeviceLoad(d, _) => Saved::Register(d, register_at(regs, d)),
         Effect::TlbRow(i, _, _) => Saved::TlbRow(i, old),
-        Effect::Ram(at, _) => Saved::RamWord(at, memory::load_word(ram, at as usize)),
+        Effect::Ram(at, _) => {
+            let short = (distance % 65536) as u32;
+            Saved::RamWord(at, memory::load_word(ram, at as usize), short)
+        }
         Effect::Nothing => Saved::Nothing,
         Effect::HiLo(_, _) => Saved::Nothing,
         Effect::Control(_, _) => Saved::Nothing,

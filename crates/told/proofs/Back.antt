@@ -40,7 +40,7 @@ unfolding savedAt
 saved-small kind which first second small = go (eqb kind 1) (eqb kind 2) (eqb kind 3)
   where
     go : (one two three : Bool) →
-        Small (cond one (Register which first) (cond two (TlbRow which (record { high = first; low = second })) (cond three (RamWord which first) Nothing)))
+        Small (cond one (Register which first) (cond two (TlbRow which (record { high = first; low = second })) (cond three (RamWord which first second) Nothing)))
     go true two three = tt
     go false true three = tt
     go false false true = small
@@ -64,7 +64,7 @@ fewer journal next w (suc h) k l all =
       | no e ↦ fewer journal next w h k (omega arith) (both _ _ all .0)
     ]
 
-module _ (journal : List ℕ) (hand next : ℕ) (w : World) where
+module _ (journal index : List ℕ) (hand next : ℕ) (w : World) where
   abbrev n : ℕ
   n = slotsOf journal
 
@@ -73,7 +73,7 @@ module _ (journal : List ℕ) (hand next : ℕ) (w : World) where
   undoneTo k = undone (back.both noRoms) n journal next k w
 
   abbrev here : Config (back.both noRoms .forward)
-  here = record { state = w; ring = record { bytes = journal; hand = hand; next = next } }
+  here = record { state = w; side = index; ring = record { bytes = journal; hand = hand; next = next } }
 
   -- the state that taking back k leaves
   abbrev pub takenBack : ℕ → World

@@ -22,6 +22,7 @@ use Rattle.undo.specs.Undo.{undoOf}
 use Rattle.undo.specs.Fit.{ramPlaceFits}
 use Rattle.restored.proofs.Notes.{saved-good, recorded}
 use Rattle.restored.proofs.Undoes.{undo-step}
+use Rattle.marks.specs.Index.{distanceIn}
 use Rattle.run.specs.Run.{forward}
 use Rattle.back.specs.Back.{both}
 use Rattle.back.specs.Allowed.{Allowed}
@@ -39,31 +40,32 @@ words-small : (s : Saved) → Below (2 ^ 32) (savedWords s) → Small s
 words-small Nothing h = tt
 words-small (Register n old) h = tt
 words-small (TlbRow i row) h = tt
-words-small (RamWord place old) h = h 2 (omega arith)
+words-small (RamWord place old distance) h = h 2 (omega arith)
 
 -- ---- one step
 
-module _ (roms : Roms) (w : World) (a : Allowed roms w) where
+module _ (distance : ℕ) (roms : Roms) (w : World) (a : Allowed roms w) where
   -- its record says the word before it, from the word after it
-  step-says : (place : ℕ) → place % 4 ≡ 0 → wordAt w place ≡ wordBefore place (writesOf (recordBytes (noteOf roms w))) (wordAt (stepOf roms w) place)
+  step-says : (place : ℕ) → place % 4 ≡ 0 → wordAt w place ≡ wordBefore place (writesOf (recordBytes (noteOf distance roms w))) (wordAt (stepOf roms w) place)
   unfolding undoOf
   step-says place even =
-      let kept = saved-good roms w (a .good) (a .whole) in
-      let s = noteOf roms w .saved in
+      let kept = saved-good distance roms w (a .good) (a .whole) in
+      let s = noteOf distance roms w .saved in
       let same : length (stepOf roms w .ram) ≡ length (w .ram) = step-lengths roms w (a .whole) (omega (arith, a .good .typed .sized .tlb)) .ram in
-      ap (λ (u : World). wordAt u place) (sym (undo-step roms w (a .good) (a .whole)))
+      ap (λ (u : World). wordAt u place) (sym (undo-step distance roms w (a .good) (a .whole)))
       ∙ word-undone s (stepOf roms w .ram) place (kept .ranged) (ap (ramPlaceFits s) same ∙ kept .place) (words-small s (kept .words)) even
-      ∙ ap (λ (r : Record). wordBefore place (writesIn (r .saved)) (wordAt (stepOf roms w) place)) (sym (recorded roms w (a .good) (a .whole)))
+      ∙ ap (λ (r : Record). wordBefore place (writesIn (r .saved)) (wordAt (stepOf roms w) place)) (sym (recorded distance roms w (a .good) (a .whole)))
 
   -- and the PC that it was made at
-  step-pc : pcAt w ≡ pcOf (recordBytes (noteOf roms w))
+  step-pc : pcAt w ≡ pcOf (recordBytes (noteOf distance roms w))
   unfolding noteOf
-  step-pc = ap (λ (r : Record). r .core .pc) (sym (recorded roms w (a .good) (a .whole)))
+  step-pc = ap (λ (r : Record). r .core .pc) (sym (recorded distance roms w (a .good) (a .whole)))
 
 -- ---- m steps from w₀, of which the ring holds those on hand
 
 module _ (roms : Roms) (execution : Below 256 (roms .execution)) (bootstrap : Below 256 (roms .bootstrap)) (w₀ : World) (a : Allowed roms w₀)
-    (total m : ℕ) (c : Config (forward roms)) (h : Holds (both roms) w₀ total (slotsOf (c .ring .bytes)) m c) where
+    (total m : ℕ) (Beside : ℕ → World → List (List ℕ) → List ℕ → Type 0) (c : Config (forward roms))
+    (h : Holds (both roms) w₀ total Beside (slotsOf (c .ring .bytes)) m c) where
   -- the state k steps ago
   abbrev pub ago : ℕ → World
   ago k = iterate (forward roms) (m - k) w₀
@@ -83,8 +85,8 @@ module _ (roms : Roms) (execution : Below 256 (roms .execution)) (bootstrap : Be
   module _ (place : ℕ) (has : hasWord (c .state .ram) place ≡ true) where
     says : (i : ℕ) → i < c .ring .hand → wordAt (ago (suc i)) place ≡ wordBefore place (writesOf (kthOf (c .ring .bytes) (c .ring .next) (suc i))) (wordAt (ago i) place)
     says i l =
-        step-says roms (ago (suc i)) (allowed (suc i)) place (aligned (c .state .ram) place has)
-        ∙ ap (λ (slot : List ℕ). wordBefore place (writesOf slot) (wordAt (stepOf roms (ago (suc i))) place)) (sym (h .records i l))
+        step-says (distanceIn (h .records i l .0)) roms (ago (suc i)) (allowed (suc i)) place (aligned (c .state .ram) place has)
+        ∙ ap (λ (slot : List ℕ). wordBefore place (writesOf slot) (wordAt (stepOf roms (ago (suc i))) place)) (sym (h .records i l .1))
         ∙ ap (λ (u : World). wordBefore place (writesOf (kthOf (c .ring .bytes) (c .ring .next) (suc i))) (wordAt u place)) (one-step i l)
 
     scanned : scan place (wordAt (ago 0) place) 0 (map writesOf (heldOf (c .ring .bytes) (c .ring .hand) (c .ring .next)))
@@ -105,7 +107,7 @@ module _ (roms : Roms) (execution : Below 256 (roms .execution)) (bootstrap : Be
   pcs : map pcOf (heldOf (c .ring .bytes) (c .ring .hand) (c .ring .next)) ≡ pcsAgo ago (c .ring .hand)
   pcs =
       pcs-are (c .ring .bytes) (c .ring .hand) (c .ring .next) ago
-      (λ i l. step-pc roms (ago (suc i)) (allowed (suc i)) ∙ ap pcOf (sym (h .records i l)))
+      (λ i l. step-pc (distanceIn (h .records i l .0)) roms (ago (suc i)) (allowed (suc i)) ∙ ap pcOf (sym (h .records i l .1)))
 
   -- THE LAWS of newest_at and oldest_at over the steps
   pub holds-newest : (pc : ℕ) → newestAtOf (c .ring .bytes) (c .ring .hand) (c .ring .next) pc ≡ newest pc 0 (pcsAgo ago (c .ring .hand))

@@ -8,10 +8,11 @@ use mathlib.Core.Logic.{_≢_}
 use mathlib.Core.Bool.{Bool, true, cond}
 use mathlib.Core.List.{List}
 use borrow.Author.Tests.{eqb-true, leb-true, eq-eqb, ne-eqb}
-use lib.Dec.{eqb}
+use lib.Dec.{eqb, ltb}
 use lib.ListN.{length}
 use lib.Seq.{sets, sets-eq}
 use Rattle.word.specs.Little.{fromBytes, toBytes}
+use Rattle.word.proofs.Cond.{both}
 use Rattle.word.proofs.LittleBytes.{length-to, from-to}
 use Rattle.memory.specs.Memory.{loadAt}
 use Rattle.ring.specs.Slots.{slot, put}
@@ -19,6 +20,7 @@ use Rattle.ring.proofs.Slots.{slot-same, slot-other}
 use Rattle.record.specs.declared.Saved.{Saved}
 use Rattle.record.specs.declared.Saved.the-variants.{Nothing, Register, TlbRow, RamWord}
 use Rattle.record.specs.Keeps.{savedRanged}
+use Rattle.record.specs.Layout.{distanceRoom}
 use Rattle.undo.specs.Undo.{ramBack}
 use Rattle.undo.specs.Fit.{ramPlaceFits}
 use Rattle.seek.specs.Latest.{wordBefore}
@@ -69,15 +71,15 @@ abbrev pub Small : Saved → Type 0
 Small Nothing = Unit
 Small (Register n old) = Unit
 Small (TlbRow i row) = Unit
-Small (RamWord place old) = old < 2 ^ 32
+Small (RamWord place old distance) = old < 2 ^ 32
 
 pub word-undone : (s : Saved) (ram : List ℕ) (place : ℕ) → savedRanged s ≡ true → ramPlaceFits s (length ram) ≡ true → Small s → place % 4 ≡ 0 →
     loadAt 4 (ramBack s ram) place ≡ wordBefore place (writesIn s) (loadAt 4 ram place)
 word-undone Nothing ram place ranged fits small aligned = refl
 word-undone (Register n old) ram place ranged fits small aligned = refl
 word-undone (TlbRow i row) ram place ranged fits small aligned = refl
-word-undone (RamWord p old) ram place ranged fits small aligned =
-    let zero : p % 4 ≡ 0 = eqb-true (p % 4) 0 ranged in
+word-undone (RamWord p old distance) ram place ranged fits small aligned =
+    let zero : p % 4 ≡ 0 = eqb-true (p % 4) 0 (both (eqb (p % 4) 0) (ltb distance distanceRoom) ranged .0) in
     let x : p ≡ 4 * (p / 4) = omega arith in
     let y : place ≡ 4 * (place / 4) = omega arith in
     let room : p + 4 ≤ length ram = leb-true (p + 4) (length ram) fits in

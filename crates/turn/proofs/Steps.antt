@@ -1,8 +1,8 @@
 -- Tick, decide, note, apply: that is a step. Over plain values, so that the walk of the code hands its facts over by name.
-use Prim.Native.Nat.{ℕ, _<_}
+use Prim.Native.Nat.{ℕ, zero, suc, _/_, _^_, _≤_, _<_}
 use mathlib.Core.Path.{_≡_, refl, sym, ap, _∙_}
 use mathlib.Core.Bool.{true}
-use mathlib.Core.List.{List, []}
+use mathlib.Core.List.{List, [], map}
 use native.Mathlib.Omega.{arith}
 use borrow.Author.Tests.{eq-eqb}
 use lib.Dec.{eqb}
@@ -21,6 +21,14 @@ use Rattle.decide.specs.Lent.{Lent, Whole, lentOf, sizesOf}
 use Rattle.decide.specs.Range.{Within}
 use Rattle.decide.proofs.Laws.{decide-within}
 use Rattle.decide.specs.declared.effect.Decision.{Decision}
+use Rattle.decide.specs.declared.effect.Effect.{Effect}
+use Rattle.clock.specs.Tick.{timeOf}
+use Rattle.clock.specs.declared.Clock.{Clock}
+use Rattle.frames.specs.Bytes.{whole, markAllIn}
+use Rattle.indexed.specs.Ahead.{tagOf, onwardOf}
+use Rattle.marks.specs.Index.{placesOf, distanceIn, ahead}
+use Rattle.marks.specs.Steps.{forgottenOf, belowIn, keptOf, touchIn, markedOf}
+use Rattle.marks.proofs.Machine.{step-ram, tick-next}
 use Rattle.step.specs.World.{World, Roms, worldOf, romsOf, lentIn}
 use Rattle.step.specs.Tick.{tickOf}
 use Rattle.step.specs.Apply.{appliedOf}
@@ -31,7 +39,7 @@ use Rattle.step.specs.Note.{savedOf, noteOf}
 use Rattle.step.proofs.Ticks.{tick-parts}
 use Rattle.step.proofs.Applied.{apply-parts}
 use Rattle.step.proofs.Effects.{saved-row}
-use Rattle.ring.specs.Slots.{Ring, written}
+use Rattle.ring.specs.Slots.{Ring, nextSlot, written}
 use Rattle.record.specs.Layout.{recordBytes}
 use Rattle.journal.specs.Journal.{slotsOf, ringOf, Ready, heldRecord, begunOf, endedOf, withSaved}
 use Rattle.journal.proofs.TwoParts.{begun-ended, begun-ready}
@@ -42,7 +50,7 @@ use Rattle.held.specs.Core.{coreIn}
 use Rattle.held.specs.declared.Held.{Held}
 use Rattle.held.proofs.Board.{length-printers}
 use Rattle.turn.specs.Buffers.{Beside, besideOf}
-use Rattle.turn.specs.Turn.{lentFrom, TurnIs}
+use Rattle.turn.specs.Turn.{lentFrom, keptBy, keptIn, markedBy, markedIn, TurnIs}
 use Rattle.turn.specs.declared.Parts.{Parts}
 use Rattle.turn.specs.declared.Turned.{Turned}
 
@@ -68,8 +76,8 @@ module _ (execution bootstrap : List ℕ) (core : Core) (board : Board) (t : Lis
   effect-is = ap (λ (d : Decision). d .effect) decision-is
 
   -- what is noted is the record of the step
-  pub note-is : {kept : SavedPaper} {old : Saved} {printers : List Printer} → kept ≡ savedPaperOf (board .line .printers) paper →
-      old ≡ savedOf (d .effect) regs t ram → printers ≡ board .line .printers →
+  pub note-is : (distance : ℕ) {kept : SavedPaper} {old : Saved} {printers : List Printer} → kept ≡ savedPaperOf (board .line .printers) paper →
+      old ≡ savedOf distance (d .effect) regs t ram → printers ≡ board .line .printers →
       _≡_ {A = Record}
       (record {
         core = core;
@@ -79,9 +87,9 @@ module _ (execution bootstrap : List ℕ) (core : Core) (board : Board) (t : Lis
         saved = old;
         printers = printers;
       })
-      (noteOf roms before)
+      (noteOf distance roms before)
   unfolding noteOf
-  note-is k o p = rw (k, o, effect-is, p)
+  note-is distance k o p = rw (k, o, effect-is, p)
 
   pub step-is : {sizes : Sizes} {core₂ : Core} {board₂ : Board} {regs₂ ram₂ : List ℕ} → sizes ≡ sizesOf (lentOf execution bootstrap ram) →
       worldOf core₂ board₂ regs₂ (rowsAfter (d .effect) []) ram₂ [] ≡ appliedOf sizes d (worldOf core₁ board₁ regs [] ram []) →
@@ -111,6 +119,27 @@ ring-is mark journal ready r old eight first last noted =
 pub still-ready : {mark : Journal} {journal : List ℕ} (r : Record) {begun : List ℕ} → Ready journal mark → length (r .printers) ≡ 8 → begun ≡ begunOf mark r journal → Ready begun mark
 still-ready {mark} {journal} r ready eight first = rw first (begun-ready mark r journal eight ready)
 
+-- ---- the index
+
+module _ (roms : Roms) (n : ℕ) (g : Ring) (w : World) (x : List ℕ) (time : ℕ) (e : Effect) (timed : time ≡ nextSlot whole (timeOf (w .board .clock))) (is : e ≡ effectIn roms w) where
+  -- what the record keeps is its tag
+  pub kept-is : keptBy n (g .hand) time e (forgottenOf n g (timeOf (w .board .clock)) x) ≡ distanceIn (tagOf (ahead roms) n g w x)
+  kept-is = rw (timed, is) (go n)
+    where
+      go : (n : ℕ) → keptBy n (g .hand) (nextSlot whole (timeOf (w .board .clock))) (effectIn roms w) (forgottenOf n g (timeOf (w .board .clock)) x) ≡ distanceIn (tagOf (ahead roms) n g w x)
+      go zero = refl
+      go (suc m) = refl
+
+  -- what is marked is the index after the step
+  pub marked-is : markedBy n time e (w .ram) (forgottenOf n g (timeOf (w .board .clock)) x) ≡ onwardOf (ahead roms) n g w x
+  marked-is = rw (timed, is) (go n)
+    where
+      go : (n : ℕ) → markedBy n (nextSlot whole (timeOf (w .board .clock))) (effectIn roms w) (w .ram) (forgottenOf n g (timeOf (w .board .clock)) x) ≡ onwardOf (ahead roms) n g w x
+      go zero = refl
+      go (suc m) =
+          ap (λ (after : List ℕ). markAllIn (nextSlot whole (timeOf (w .board .clock))) (map (touchIn (w .ram) after) (placesOf (effectIn roms w))) (forgottenOf (suc m) g (timeOf (w .board .clock)) x))
+          (sym (step-ram roms w))
+
 -- the record as it is begun
 abbrev pub begunRecord : Parts → Beside → Record
 begunRecord p b = heldRecord (p .core) (p .held .clock .timer) (p .held .pending) (savedPaperOf (printersIn (p .words)) (b .paper)) (p .words)
@@ -122,16 +151,19 @@ partsLeft p d r core words regs =
 
 -- start, decide, the old row, finish: together a turn
 pub turned-is : (settings : Settings) (p : Parts) (b : Beside) → Whole (lentFrom b) → Ready (b .journal) (p .mark) → length (p .rows) ≡ 16 →
-    {after : Held} {core₁ words₁ paper₁ journal₁ : List ℕ} → TickIs settings (p .core) (p .held) (p .words) (b .paper) after core₁ words₁ paper₁ →
-    journal₁ ≡ begunOf (p .mark) (begunRecord p b) (b .journal) →
+    {after : Held} {core₁ words₁ paper₁ journal₁ index₁ : List ℕ} → TickIs settings (p .core) (p .held) (p .words) (b .paper) after core₁ words₁ paper₁ →
+    journal₁ ≡ begunOf (p .mark) (begunRecord p b) (b .journal) → length journal₁ ≡ length (b .journal) →
+    index₁ ≡ forgottenOf (slotsOf (b .journal)) (ringOf (p .mark) (b .journal)) (timeOf (p .held .clock)) (b .index) →
+    timeOf (after .clock) ≡ nextSlot whole (timeOf (p .held .clock)) →
     {core : Core} → core ≡ coreIn core₁ →
     {d : Decision} → d ≡ decideOf core (p .regs) (p .rows) (lentFrom b) →
     {old : Row} → old ≡ oldRow (d .effect) (p .rows) →
-    {r : Turned} {core₂ words₂ regs₂ ram₂ journal₂ : List ℕ} →
+    {r : Turned} {core₂ words₂ regs₂ ram₂ journal₂ index₂ : List ℕ} →
     ApplyIs settings (sizesOf (lentFrom b)) d core₁ after words₁ (p .regs) (b .ram) (r .held) core₂ words₂ regs₂ ram₂ →
-    ringOf (r .mark) journal₂ ≡ endedOf (p .mark) (savedWith (d .effect) (p .regs) old (b .ram)) journal₁ →
-    TurnIs settings p b (d .effect) (partsLeft p d r core₂ words₂ regs₂) (besideOf (b .execution) (b .bootstrap) ram₂ paper₁ journal₂)
-turned-is settings p b whole ready sixteen {core₁ = core₁} ticked begun {core} read {d} decided {old} row applied ended =
+    ringOf (r .mark) journal₂ ≡ endedOf (p .mark) (savedWith (keptIn (p .mark) journal₁ (after .clock) (d .effect) index₁) (d .effect) (p .regs) old (b .ram)) journal₁ →
+    index₂ ≡ markedIn journal₁ (after .clock) (d .effect) (b .ram) index₁ →
+    TurnIs settings p b (d .effect) (partsLeft p d r core₂ words₂ regs₂) (besideOf (b .execution) (b .bootstrap) ram₂ paper₁ journal₂ index₂)
+turned-is settings p b whole ready sixteen {after} {core₁ = core₁} {journal₁ = journal₁} {index₁} ticked begun long forgot timed {core} read {d} decided {old} row applied ended marked =
     let x = b .execution in
     let y = b .bootstrap in
     let t = p .rows in
@@ -139,17 +171,37 @@ turned-is settings p b whole ready sixteen {core₁ = core₁} ticked begun {cor
     let board = boardOf (p .held) settings (p .words) in
     let chosen = decided ∙ ap (λ (c : Core). decideOf c (p .regs) t (lentFrom b)) read in
     let within = rw (← sixteen) at (decided-fits whole core (p .regs) t sixteen decided) in
+    let roms = romsOf x y in
+    let here = worldOf from board (p .regs) t (b .ram) (b .paper) in
+    let g = ringOf (p .mark) (b .journal) in
+    let n = slotsOf (b .journal) in
+    let same : slotsOf journal₁ ≡ n = ap (λ (k : ℕ). k / 256) long in
+    let effect = effect-is x y from board t (p .regs) (b .ram) (b .paper) (ticked .world-is) chosen in
+    let far : ℕ = keptIn (p .mark) journal₁ (after .clock) (d .effect) index₁ in
+    let far-is : far ≡ distanceIn (tagOf (ahead roms) n g here (b .index)) =
+    rw (same, forgot) (kept-is roms n g here (b .index) (timeOf (after .clock)) (d .effect) timed effect) in
     let kept =
-    ap (λ (o : Row). savedWith (d .effect) (p .regs) o (b .ram)) row ∙ saved-row (length (b .ram)) (p .regs) t (b .ram) (d .effect) within in
+    ap (λ (o : Row). savedWith far (d .effect) (p .regs) o (b .ram)) row ∙ saved-row far (length (b .ram)) (p .regs) t (b .ram) (d .effect) within in
     record {
       world-is = step-is x y from board t (p .regs) (b .ram) (b .paper) (ticked .world-is) chosen refl (applied .world-is);
-      effect-is = effect-is x y from board t (p .regs) (b .ram) (b .paper) (ticked .world-is) chosen;
+      effect-is = effect;
       ring-is =
           ring-is (p .mark) (b .journal) ready (begunRecord p b) _ (length-printers (p .words)) begun ended
-          (note-is x y from board t (p .regs) (b .ram) (b .paper) (ticked .world-is) chosen refl kept refl);
+          (note-is x y from board t (p .regs) (b .ram) (b .paper) (ticked .world-is) chosen far refl kept refl)
+          ∙ ap (λ (k : ℕ). written 256 n (recordBytes (noteOf k roms here)) g) far-is;
+      index-is =
+          marked
+          ∙ rw (same, forgot) (marked-is roms n g here (b .index) (timeOf (after .clock)) (d .effect) timed effect);
       told = applied .told;
       fourteen = applied .fourteen;
     }
+
+-- the clock of the run goes on by one
+pub clock-next : (settings : Settings) (core : List ℕ) (held : Held) (words paper : List ℕ) (after : Held) (core₁ words₁ paper₁ : List ℕ) →
+    TickIs settings core held words paper after core₁ words₁ paper₁ → timeOf (held .clock) < 2 ^ 64 → timeOf (after .clock) ≡ nextSlot whole (timeOf (held .clock))
+unfolding tickOf
+clock-next settings core held words paper after core₁ words₁ paper₁ ticked small =
+    ap (λ (w : World). timeOf (w .board .clock)) (ticked .world-is) ∙ tick-next (held .clock) small
 
 -- ---- with no slots
 
@@ -158,6 +210,28 @@ no-slots journal short = eq-eqb (slotsOf journal) 0 (omega (arith, short))
 
 pub not-begun : (mark : Journal) (r : Record) (journal : List ℕ) → length journal < 256 → begunOf mark r journal ≡ journal
 not-begun mark r journal short = rw (no-slots journal short)
+
+pub not-marked : (journal : List ℕ) (clock : Clock) (e : Effect) (ram x : List ℕ) → length journal < 256 → markedIn journal clock e ram x ≡ x
+not-marked journal clock e ram x short =
+    let none : slotsOf journal ≡ 0 = omega (arith, short) in
+    ap (λ (n : ℕ). markedBy n (timeOf clock) e ram x) none
+
+-- with some, the two are worked out
+pub kept-some : (mark : Journal) (journal : List ℕ) (clock : Clock) (e : Effect) (x : List ℕ) → 256 ≤ length journal →
+    keptOf (timeOf clock) (belowIn (slotsOf journal) (mark .«on_hand»)) e x ≡ keptIn mark journal clock e x
+kept-some mark journal clock e x some = go (slotsOf journal) (omega arith)
+  where
+    go : (n : ℕ) → 0 < n → keptOf (timeOf clock) (belowIn n (mark .«on_hand»)) e x ≡ keptBy n (mark .«on_hand») (timeOf clock) e x
+    go zero h = absurd (omega arith)
+    go (suc m) h = refl
+
+pub marked-some : (journal : List ℕ) (clock : Clock) (e : Effect) (ram x : List ℕ) → 256 ≤ length journal →
+    markedOf (timeOf clock) e ram x ≡ markedIn journal clock e ram x
+marked-some journal clock e ram x some = go (slotsOf journal) (omega arith)
+  where
+    go : (n : ℕ) → 0 < n → markedOf (timeOf clock) e ram x ≡ markedBy n (timeOf clock) e ram x
+    go zero h = absurd (omega arith)
+    go (suc m) h = refl
 
 pub not-ended : (mark : Journal) (old : Saved) (journal : List ℕ) → length journal < 256 → endedOf mark old journal ≡ ringOf mark journal
 not-ended mark old journal short = rw (no-slots journal short)

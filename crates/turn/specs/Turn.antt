@@ -1,12 +1,13 @@
 -- One step with its record: what is asked of what a run holds and is lent, and all that a turn of the loop leaves.
-use Prim.Native.Nat.{ℕ, _≤_}
+use Prim.Native.Nat.{ℕ, zero, suc, _≤_}
 use mathlib.Core.Path.{_≡_}
 use mathlib.Core.List.{List}
 use lib.ListN.{length}
 use Rattle.word.specs.Sizes.{recordSize}
 use Rattle.ring.specs.Slots.{written}
-use Rattle.record.specs.Layout.{recordBytes}
 use Rattle.journal.specs.Journal.{slotsOf, ringOf, Ready}
+use Rattle.clock.specs.Tick.{timeOf}
+use Rattle.clock.specs.declared.Clock.{Clock}
 use Rattle.state.specs.declared.machine.Journal.{Journal}
 use Rattle.state.specs.declared.machine.Settings.{Settings}
 use Rattle.decide.specs.Lent.{Lent, lentOf}
@@ -16,7 +17,9 @@ use Rattle.held.specs.Core.{coreIn}
 use Rattle.held.specs.declared.Held.{Held}
 use Rattle.step.specs.World.{World, worldOf}
 use Rattle.step.specs.Step.{effectIn, stepOf}
-use Rattle.step.specs.Note.{noteOf}
+use Rattle.indexed.specs.Ahead.{tagOf, onwardOf}
+use Rattle.marks.specs.Index.{ahead}
+use Rattle.marks.specs.Steps.{belowIn, keptOf, markedOf}
 use Rattle.turn.specs.Buffers.{Beside, romsIn}
 use Rattle.turn.specs.declared.Parts.{Parts}
 
@@ -32,6 +35,21 @@ pub record Fit (core : List ℕ) (held : Held) (words paper journal : List ℕ) 
   pub short : length paper ≤ 65536
   pub ready : Ready journal mark
 
+-- what the record of a step keeps of the index, and the index with the step marked: with no slots neither is worked out
+abbrev pub keptBy : ℕ → ℕ → ℕ → Effect → List ℕ → ℕ
+keptBy zero hand time e x = 0
+keptBy (suc m) hand time e x = keptOf time (belowIn (suc m) hand) e x
+
+abbrev pub keptIn : Journal → List ℕ → Clock → Effect → List ℕ → ℕ
+keptIn mark journal clock e x = keptBy (slotsOf journal) (mark .«on_hand») (timeOf clock) e x
+
+abbrev pub markedBy : ℕ → ℕ → Effect → List ℕ → List ℕ → List ℕ
+markedBy zero time e ram x = x
+markedBy (suc m) time e ram x = markedOf time e ram x
+
+abbrev pub markedIn : List ℕ → Clock → Effect → List ℕ → List ℕ → List ℕ
+markedIn journal clock e ram x = markedBy (slotsOf journal) (timeOf clock) e ram x
+
 -- the world of the parts that a run holds
 abbrev pub worldHeld : Parts → Settings → Beside → World
 worldHeld p settings b = worldOf (coreIn (p .core)) (boardOf (p .held) settings (p .words)) (p .regs) (p .rows) (b .ram) (b .paper)
@@ -41,7 +59,11 @@ pub record TurnIs (settings : Settings) (p : Parts) (b : Beside) (e : Effect) (p
   pub world-is : worldHeld p′ settings b′ ≡ stepOf (romsIn b) (worldHeld p settings b)
   pub effect-is : e ≡ effectIn (romsIn b) (worldHeld p settings b)
   pub ring-is :
-      ringOf (p′ .mark) (b′ .journal)
-      ≡ written recordSize (slotsOf (b .journal)) (recordBytes (noteOf (romsIn b) (worldHeld p settings b))) (ringOf (p .mark) (b .journal))
+      let s = worldHeld p settings b in
+      let g = ringOf (p .mark) (b .journal) in
+      let n = slotsOf (b .journal) in
+      ringOf (p′ .mark) (b′ .journal) ≡ written recordSize n (ahead (romsIn b) .note (tagOf (ahead (romsIn b)) n g s (b .index)) s) g
+  pub index-is :
+      b′ .index ≡ onwardOf (ahead (romsIn b)) (slotsOf (b .journal)) (ringOf (p .mark) (b .journal)) (worldHeld p settings b) (b .index)
   pub told : Told (p′ .held) (p′ .words)
   pub fourteen : length (p′ .core) ≡ 14

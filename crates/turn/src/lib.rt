@@ -2,15 +2,22 @@
 // it keeps of the state, and ended with what the step overwrites once that is decided: so no old value is kept aside while the step works. The decision itself, which
 // takes the table by value, is the loop's to ask for: a function that took the table in and on would copy it in every step (docs/SPEED.md).
 ghost use mathlib.Core.Path.{_≡_};
+ghost use Prim.Native.Nat.{_%_};
 ghost use lib.ListN.{length};
 ghost use Rattle.printer.specs.Saved.{savedPaperOf};
 ghost use Rattle.held.specs.Board.{printersIn, Told};
 ghost use Rattle.decide.specs.Range.{Within};
-ghost use Rattle.journal.specs.Journal.{ringOf, Ready, heldRecord, begunOf, endedOf};
+ghost use Rattle.journal.specs.Journal.{slotsOf, ringOf, Ready, heldRecord, begunOf, endedOf};
 ghost use Rattle.decide.specs.Lent.{lentOf, sizesOf, Whole};
 ghost use Rattle.step.specs.Held.{TickIs, ApplyIs};
 ghost use Rattle.step.specs.Parts.{savedWith};
-ghost use Rattle.turn.specs.Turn.{Fit};
+ghost use Rattle.marks.specs.Steps.{FitsRam, forgottenOf};
+ghost use Rattle.clock.specs.Tick.{timeOf};
+ghost use Rattle.ring.specs.Slots.{nextSlot};
+ghost use Rattle.frames.specs.Bytes.{whole};
+ghost use Rattle.turn.specs.Turn.{Fit, keptIn, markedIn};
+use clock::Clock;
+use clock::time;
 use decide::effect::Decision;
 use decide::effect::Effect;
 use decide::lent::sizes;
@@ -19,6 +26,8 @@ use held::line::saved_paper;
 use journal::SLOT;
 use journal::begun;
 use journal::ended;
+use marks::onward::below;
+use marks::onward::forget;
 use printer::saved::SavedPaper;
 use state::machine::Journal;
 use state::machine::Settings;
@@ -84,25 +93,32 @@ fn begin(
 fn end(
     journal: &mut [u8],
     mark: Journal,
+    clock: Clock,
     effect: Effect,
     regs: &[u32; 32],
     old: Row,
     ram: &[u8],
+    index: &mut [u8],
 ) -> Journal
     requires { ⌜ Ready (now journal) mark ⌝ }
     requires { ⌜ Within (length (now ram)) 16 effect ⌝ }
+    requires { ⌜ FitsRam (now ram) (now index) ⌝ }
     ensures { λ m. ⌜
         ringOf m (now (journal .exit))
-        ≡ endedOf mark (savedWith effect (now (regs .entry)) old (now (ram .entry))) (now (journal .entry))
+        ≡ endedOf mark (savedWith (keptIn mark (now (journal .entry)) clock effect (now (index .entry))) effect (now (regs .entry)) old (now (ram .entry)))
+        (now (journal .entry))
         ⌝ }
+    ensures { λ _. ⌜ now (index .exit) ≡ markedIn (now (journal .entry)) clock effect (now (ram .entry)) (now (index .entry)) ⌝ }
 {
     if journal.len() < SLOT {
         return mark;
     }
-    ended(journal, mark, saved(effect, regs, old, ram))
+    let under = below(journal.len() / SLOT, mark.on_hand);
+    let distance = marks::onward::mark(index, time(clock), under, ram, effect);
+    ended(journal, mark, saved(effect, regs, old, ram, distance))
 }
 
-// Before the decision: the record begun, and the tick.
+// Before the decision: the oldest record forgotten, the new one begun, and the tick.
 pub fn start(
     core: &mut [u32; 14],
     held: Held,
@@ -111,8 +127,10 @@ pub fn start(
     paper: &mut [u8],
     journal: &mut [u8],
     mark: Journal,
+    index: &mut [u8],
 ) -> Held
     requires { ⌜ Fit (now core) held (now words) (now paper) (now journal) mark ⌝ }
+    requires { ⌜ length (now index) % 16 ≡ 0 ⌝ }
     ensures { λ r. ⌜
         TickIs settings (now (core .entry)) held (now (words .entry)) (now (paper .entry)) r
         (now (core .exit)) (now (words .exit)) (now (paper .exit))
@@ -123,7 +141,14 @@ pub fn start(
         (heldRecord (now (core .entry)) (held .clock .timer) (held .pending) (savedPaperOf (printersIn (now (words .entry))) (now (paper .entry))) (now (words .entry)))
         (now (journal .entry))
         ⌝ }
+    ensures { λ _. ⌜
+        now (index .exit)
+        ≡ forgottenOf (slotsOf (now (journal .entry))) (ringOf mark (now (journal .entry))) (timeOf (held .clock)) (now (index .entry))
+        ⌝ }
+    ensures { λ r. ⌜ timeOf (r .clock) ≡ nextSlot whole (timeOf (held .clock)) ⌝ }
 {
+    let clock = held.clock;
+    forget(index, journal, mark, clock);
     begin(journal, mark, core, held, words, paper);
     ticked(core, held, settings, words, paper)
 }
@@ -142,8 +167,10 @@ pub fn finish(
     ram: &mut [u8],
     journal: &mut [u8],
     mark: Journal,
+    index: &mut [u8],
 ) -> Turned
     requires { ⌜ Ready (now journal) mark ⌝ }
+    requires { ⌜ FitsRam (now ram) (now index) ⌝ }
     requires { ⌜ Within (length (now ram)) 16 (d .effect) ⌝ }
     requires { ⌜ Told after (now words) ⌝ }
     requires { ⌜ Whole (lentOf (now execution) (now bootstrap) (now ram)) ⌝ }
@@ -153,11 +180,14 @@ pub fn finish(
         ⌝ }
     ensures { λ r. ⌜
         ringOf (r .mark) (now (journal .exit))
-        ≡ endedOf mark (savedWith (d .effect) (now (regs .entry)) old (now (ram .entry))) (now (journal .entry))
+        ≡ endedOf mark (savedWith (keptIn mark (now (journal .entry)) (after .clock) (d .effect) (now (index .entry))) (d .effect) (now (regs .entry)) old (now (ram .entry)))
+        (now (journal .entry))
         ⌝ }
+    ensures { λ _. ⌜ now (index .exit) ≡ markedIn (now (journal .entry)) (after .clock) (d .effect) (now (ram .entry)) (now (index .entry)) ⌝ }
 {
     let effect = d.effect;
-    let next = end(journal, mark, effect, regs, old, ram);
+    let clock = after.clock;
+    let next = end(journal, mark, clock, effect, regs, old, ram, index);
     let lent = sizes(execution, bootstrap, ram);
     let left = applied(core, after, settings, words, d, lent, regs, ram);
     Turned {

@@ -61,13 +61,13 @@ module _ (regs : List ℕ) where
   regs-small Nothing h own = own
   regs-small (Register n old) h own = below-set regs n old own (h 2 (omega arith))
   regs-small (TlbRow i row) h own = own
-  regs-small (RamWord place old) h own = own
+  regs-small (RamWord place old distance) h own = own
 
   pub regs-long : (s : Saved) → length (regsBack s regs) ≡ length regs
   regs-long Nothing = refl
   regs-long (Register n old) = length-set regs n old
   regs-long (TlbRow i row) = refl
-  regs-long (RamWord place old) = refl
+  regs-long (RamWord place old distance) = refl
 
   -- register 0 is none of those that a record in range saves
   pub regs-zero : (s : Saved) → savedRanged s ≡ true → getD (regsBack s regs) 0 0 ≡ getD regs 0 0
@@ -76,7 +76,7 @@ module _ (regs : List ℕ) where
       let some = at-least-one n _ e in
       getD-set-other regs n 0 old 0 (λ z. omega arith)
   regs-zero (TlbRow i row) e = refl
-  regs-zero (RamWord place old) e = refl
+  regs-zero (RamWord place old distance) e = refl
 
 -- one element anew
 below-flat-set : {m : ℕ} {A : Type 0} (g : A → List ℕ) (xs : List A) (i : ℕ) (a : A) → Below m (g a) → Below m (flat g xs) → Below m (flat g (set xs i a))
@@ -91,13 +91,13 @@ module _ (rows : List Row) where
   rows-small Nothing h own = own
   rows-small (Register n old) h own = own
   rows-small (TlbRow i row) h own = below-flat-set rowWords rows i row (below-right (2 ∷ i ∷ []) (rowWords row) h) own
-  rows-small (RamWord place old) h own = own
+  rows-small (RamWord place old distance) h own = own
 
   pub rows-long : (s : Saved) → length (rowsBack s rows) ≡ length rows
   rows-long Nothing = refl
   rows-long (Register n old) = refl
   rows-long (TlbRow i row) = length-set rows i row
-  rows-long (RamWord place old) = refl
+  rows-long (RamWord place old distance) = refl
 
 -- a number of 64 bits is two words
 two-words : (time timer : ℕ) → time < 2 ^ 64 → timer < 2 ^ 32 → Below (2 ^ 32) (clockWords (clockAt time timer))

@@ -32,7 +32,7 @@ length-ram : (s : Saved) (ram : List ℕ) → length (ramBack s ram) ≡ length 
 length-ram Nothing ram = refl
 length-ram (Register n old) ram = refl
 length-ram (TlbRow i row) ram = refl
-length-ram (RamWord place old) ram = length-sets ram place (toBytes 4 old)
+length-ram (RamWord place old distance) ram = length-sets ram place (toBytes 4 old)
 
 -- THE LAW: the check needs the view alone, whatever the record
 pub cored : (r : Record) (w : World) → viewOf (undoOf r w) ≡ undoView r (viewOf w)
@@ -43,8 +43,8 @@ cored r w =
 -- ---- places
 
 -- the store that puts a word back, where RAM has its place
-pub word-back : (place old : ℕ) (ram : List ℕ) → place + 4 ≤ length ram → ramBack (RamWord place old) ram ≡ storedAt 4 ram place old
-word-back place old ram h = sym (stored-sets 4 ram place old h)
+pub word-back : (place old distance : ℕ) (ram : List ℕ) → place + 4 ≤ length ram → ramBack (RamWord place old distance) ram ≡ storedAt 4 ram place old
+word-back place old distance ram h = sym (stored-sets 4 ram place old h)
 
 pub register-below : (n : ℕ) → between 1 31 n ≡ true → n < 32
 register-below n e = omega (arith, leb-true n 31 (both (leb 1 n) (leb n 31) e .1))

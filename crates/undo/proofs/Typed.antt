@@ -73,7 +73,7 @@ pub ram-bytes : (s : Saved) (ram : List ℕ) → Below 256 ram → Below 256 (ra
 ram-bytes Nothing ram h = h
 ram-bytes (Register n old) ram h = h
 ram-bytes (TlbRow i row) ram h = h
-ram-bytes (RamWord place old) ram h = below-sets ram place (toBytes 4 old) h (to-below 4 old)
+ram-bytes (RamWord place old distance) ram h = below-sets ram place (toBytes 4 old) h (to-below 4 old)
 
 -- ---- paper
 

@@ -26,7 +26,7 @@ abbrev pub ramPlaceFits : Saved → ℕ → Bool
 ramPlaceFits Nothing ram = true
 ramPlaceFits (Register n old) ram = true
 ramPlaceFits (TlbRow i row) ram = true
-ramPlaceFits (RamWord place old) ram = leb (place + 4) ram
+ramPlaceFits (RamWord place old distance) ram = leb (place + 4) ram
 
 -- the paper place of printer n, if it wrote, for paper of so many bytes
 abbrev pub paperPlaceFits : ℕ → List Printer → ℕ → ℕ → Bool

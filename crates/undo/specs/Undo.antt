@@ -22,13 +22,13 @@ abbrev pub regsBack : Saved → List ℕ → List ℕ
 regsBack Nothing regs = regs
 regsBack (Register n old) regs = set regs n old
 regsBack (TlbRow i row) regs = regs
-regsBack (RamWord place old) regs = regs
+regsBack (RamWord place old distance) regs = regs
 
 abbrev pub rowsBack : Saved → List Row → List Row
 rowsBack Nothing rows = rows
 rowsBack (Register n old) rows = rows
 rowsBack (TlbRow i row) rows = set rows i row
-rowsBack (RamWord place old) rows = rows
+rowsBack (RamWord place old distance) rows = rows
 
 -- A byte at a place that RAM does not have is passed over, so that RAM keeps its length whatever the record says; a whole word that has its place is the
 -- store of it (`word-back` in proofs/Laws.antt).
@@ -36,7 +36,7 @@ abbrev pub ramBack : Saved → List ℕ → List ℕ
 ramBack Nothing ram = ram
 ramBack (Register n old) ram = ram
 ramBack (TlbRow i row) ram = ram
-ramBack (RamWord place old) ram = sets ram place (toBytes 4 old)
+ramBack (RamWord place old distance) ram = sets ram place (toBytes 4 old)
 
 -- the 64-bit clock goes down by one and wraps
 abbrev pub clockBack : ℕ → Clock → Clock

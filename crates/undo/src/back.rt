@@ -30,7 +30,7 @@ fn regs_back(s: Saved, regs: [u32; 32]) -> [u32; 32]
             back
         }
         Saved::TlbRow(_, _) => back,
-        Saved::RamWord(_, _) => back,
+        Saved::RamWord(_, _, _) => back,
     }
 }
 
@@ -47,7 +47,7 @@ fn rows_back(s: Saved, rows: [Row; 16]) -> [Row; 16]
             back[at] = row;
             back
         }
-        Saved::RamWord(_, _) => back,
+        Saved::RamWord(_, _, _) => back,
     }
 }
 
@@ -59,7 +59,7 @@ fn ram_back(s: Saved, ram: &mut [u8])
         Saved::Nothing => {}
         Saved::Register(_, _) => {}
         Saved::TlbRow(_, _) => {}
-        Saved::RamWord(place, old) => {
+        Saved::RamWord(place, old, _) => {
             let at = place as usize;
             store_word(ram, at, old)
         }

@@ -25,7 +25,7 @@ fn ram_place_fits(s: Saved, ram: usize) -> bool
         Saved::Nothing => true,
         Saved::Register(_, _) => true,
         Saved::TlbRow(_, _) => true,
-        Saved::RamWord(place, _) => place as usize + 4 <= ram,
+        Saved::RamWord(place, _, _) => place as usize + 4 <= ram,
     }
 }
 

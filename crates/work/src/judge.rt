@@ -5,8 +5,9 @@ use session::work::Worked;
 
 // What reset says of the three parameters.
 fn ranges(scale: u64, delay: u64, installed: u64) -> u64 {
-    let mut scratch = [0u8; 509];
-    refused(reset::reset(&mut scratch, scale, delay, installed))
+    let mut image = [0u8; 509];
+    let mut index = [0u8; 16];
+    refused(reset::reset(&mut image, &mut index, scale, delay, installed))
 }
 
 // Rows 1, 3, 4 and 6 of document 01's numbers; 0 where nothing is refused.

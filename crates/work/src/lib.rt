@@ -19,13 +19,32 @@ pub fn perform(
     ram: &mut [u8],
     paper: &mut [u8],
     journal: &mut [u8],
+    index: &mut [u8],
 ) -> Worked {
     match work {
         Work::Nothing => Worked::Nothing,
         Work::Judge(fresh) => judged(fresh),
-        Work::Load(address) => load::load(file, image, ram, address),
-        Work::Back(steps) => back(image, ram, paper, journal, steps),
-        Work::Blame(asked) => blame(image, execution, bootstrap, ram, paper, journal, asked),
-        _ => run(image, execution, bootstrap, ram, paper, journal, work),
+        Work::Load(address) => load::load(file, image, ram, index, address),
+        Work::Back(steps) => back(image, ram, paper, journal, index, steps),
+        Work::Blame(asked) => blame(
+            image,
+            execution,
+            bootstrap,
+            ram,
+            paper,
+            journal,
+            index,
+            asked,
+        ),
+        _ => run(
+            image,
+            execution,
+            bootstrap,
+            ram,
+            paper,
+            journal,
+            index,
+            work,
+        ),
     }
 }

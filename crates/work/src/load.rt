@@ -1,4 +1,5 @@
-// load: a file's bytes are put into RAM. What the host writes is no step, so the journal is emptied.
+// load: a file's bytes are put into RAM. What the host writes is no step, so the journal is emptied, and with it the index.
+use reset::empty;
 use session::work::Worked;
 use text::put;
 
@@ -25,19 +26,26 @@ fn place(address: u64) -> usize {
     (address - 0x2000_0000) as usize
 }
 
-fn laid(file: &[u8], image: &mut [u8], ram: &mut [u8], address: u64) -> Worked {
+fn laid(file: &[u8], image: &mut [u8], ram: &mut [u8], index: &mut [u8], address: u64) -> Worked {
     let zeros = [0u8; 8];
     put(ram, place(address), file);
     put(image, JOURNAL, &zeros);
+    empty(index);
     Worked::Loaded(file.len() as u64, address)
 }
 
-pub fn load(file: &[u8], image: &mut [u8], ram: &mut [u8], address: u64) -> Worked {
+pub fn load(
+    file: &[u8],
+    image: &mut [u8],
+    ram: &mut [u8],
+    index: &mut [u8],
+    address: u64,
+) -> Worked {
     if image.len() != 509 {
         return Worked::Refused(5);
     }
     if !fits(address, file.len(), ram.len()) {
         return Worked::NoRoom(ram.len() as u64);
     }
-    laid(file, image, ram, address)
+    laid(file, image, ram, index, address)
 }

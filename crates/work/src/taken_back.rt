@@ -15,7 +15,8 @@ pub fn back(
     ram: &mut [u8],
     paper: &mut [u8],
     journal: &[u8],
+    index: &mut [u8],
     steps: u64,
 ) -> Worked {
-    told(backward::take_back(image, ram, paper, journal, steps))
+    told(backward::take_back(image, ram, paper, journal, index, steps))
 }

@@ -37,6 +37,7 @@ pub struct Bench {
     pub ram: Vec<u8>,
     pub paper: Vec<u8>,
     pub journal: Vec<u8>,
+    pub index: Vec<u8>,
 }
 
 /// Everything lent, as the host would compare it.
@@ -48,6 +49,7 @@ impl PartialEq for Bench {
             && self.ram == other.ram
             && self.paper == other.paper
             && self.journal == other.journal
+            && self.index == other.index
     }
 }
 
@@ -61,7 +63,7 @@ impl std::fmt::Debug for Bench {
 /// An image as reset leaves it: scale 1, delay 3, printers 0 and 2.
 pub fn reset_image() -> Vec<u8> {
     let mut image = vec![0xEE; IMAGE_BYTES];
-    assert_eq!(reset(&mut image, 1, DELAY.into(), 5).packed(), 0);
+    assert_eq!(reset(&mut image, &mut [7; 16], 1, DELAY.into(), 5).packed(), 0);
     image
 }
 
@@ -89,6 +91,7 @@ impl Bench {
             ram: vec![0; 0x2000],
             paper: vec![0; 32],
             journal: vec![0; 4 * 256],
+            index: vec![0; 2 * 16],
         }
     }
 
@@ -146,8 +149,14 @@ impl Bench {
         answer
     }
 
+    /// An index for the RAM of now. Frames that it did not have name no step.
+    pub fn fit_index(&mut self) {
+        self.index.resize(self.ram.len() / 4096 * 16, 0);
+    }
+
     /// The same with records.
     pub fn run_records(&mut self, budget: u64, stop: u64) -> Answer {
+        self.fit_index();
         let mut image = self.image();
         let answer = reference::run_with_records(
             &mut image,
@@ -156,6 +165,7 @@ impl Bench {
             &mut self.ram,
             &mut self.paper,
             &mut self.journal,
+            &mut self.index,
             budget,
             stop,
         );
@@ -178,6 +188,7 @@ impl Bench {
 
     /// Takes back from the records; a refusal has to leave everything.
     pub fn take_back(&mut self, steps: u64) -> Answer {
+        self.fit_index();
         let mut after = self.clone();
         let mut image = self.image();
         let answer = reference::take_back(
@@ -185,6 +196,7 @@ impl Bench {
             &mut after.ram,
             &mut after.paper,
             &after.journal,
+            &mut after.index,
             steps,
         );
         after.machine = decode(&image);

@@ -5,6 +5,7 @@ use crate::call::Call;
 use crate::dice::Dice;
 use crate::fields::{NEXT_SLOT, ON_HAND};
 use crate::lengths::Lengths;
+use crate::lent::empty_index;
 use crate::pool::Pool;
 use crate::record::{newest, plain, set, KIND, SLOT_FLAG, UNUSED};
 use crate::valid::Case;
@@ -98,6 +99,7 @@ pub fn lent(dice: &mut Dice, pool: &Pool, asked: &Asked) -> Call {
         ram: pool.bytes(dice, ram),
         paper: pool.bytes(dice, paper),
         journal,
+        index: empty_index(ram),
         budget: 0,
         stop: 0,
     }

@@ -104,7 +104,7 @@ impl Case<'_> {
             Ok(_) => {}
         }
         self.count(which, expected, &wrongs, &damaged, steps);
-        self.sides.restore(&self.left.image, &self.left.ram, &self.left.paper);
+        self.sides.restore(&self.left);
         for (age, _) in damaged {
             let slot = self.slot(age);
             let record = at(&self.left.journal, slot).to_vec();

@@ -89,9 +89,11 @@ pub const DAMAGES: [Damage; 41] = [
         let place = 4 * dice.below(spot.judge.ram / 4) + dice.between(1, 3);
         spot.kind(RAM_WORD, place, dice.word(), 0);
     }),
-    ("a RAM word with a word too many", |spot, dice| {
+    ("a RAM word with a distance", |spot, dice| {
         let place = 4 * dice.below(spot.judge.ram / 4);
-        spot.kind(RAM_WORD, place, dice.word(), 1 << dice.below(32));
+        let (near, far) = (dice.below(20), 1 << dice.between(16, 31));
+        let distance = dice.pick(&[near, 65_535, 65_536, far, far, far | near, u32::MAX]);
+        spot.kind(RAM_WORD, place, dice.word(), distance);
     }),
     ("a map of printers that wrote", |spot, dice| {
         spot.set(PRINTED, dice.below(256));

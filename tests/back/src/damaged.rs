@@ -6,6 +6,7 @@ use crate::case::{Case, Met};
 use crate::damage::DAMAGES;
 use crate::dice::Dice;
 use crate::judge::{Judge, WRONGS};
+use crate::lent::empty_index;
 use crate::pool::Pool;
 use crate::record::*;
 use crate::report::different;
@@ -47,8 +48,8 @@ fn tried(dice: &mut Dice, pool: &Pool, slots: usize) -> Call {
         LONGEST => dice.between(100, 100_000),
         _ => dice.between(1, 40),
     };
-    let Call { image, execution, bootstrap, ram, paper, journal, .. } = &mut call;
-    run_with_records(image, execution, bootstrap, ram, paper, journal, steps.into(), 0);
+    let Call { image, execution, bootstrap, ram, paper, journal, index, .. } = &mut call;
+    run_with_records(image, execution, bootstrap, ram, paper, journal, index, steps.into(), 0);
     call
 }
 
@@ -92,6 +93,7 @@ fn other_lengths(dice: &mut Dice, pool: &Pool, what: String, met: &mut Met) {
     if dice.chance(2) {
         let length = dice.pick(&[1, 2, 3, 4]) * 4_096;
         call.ram.resize(length, 0x5A);
+        call.index.resize(empty_index(length).len(), 0x5A);
     } else {
         let length = dice.pick(&[0, 8, 16, 64, 128, 800]);
         call.paper.resize(length, 0x5A);

@@ -26,7 +26,7 @@ pub const WRONGS: [Wrong; 33] = [
     ("a word beside a register", 700, |_, r| kind(r, REGISTER) && word(r, OLD_LOW) != 0),
     ("a row's index", 400, |_, r| kind(r, ROW) && word(r, WHICH) > 15),
     ("a RAM place that is not a multiple of 4", 700, |_, r| kind(r, RAM_WORD) && word(r, WHICH) % 4 != 0),
-    ("a word beside a RAM word", 700, |_, r| kind(r, RAM_WORD) && word(r, OLD_LOW) != 0),
+    ("a distance over 65,535", 700, |_, r| kind(r, RAM_WORD) && word(r, DISTANCE) > 65_535),
     ("a printer over 7 wrote", 700, |_, r| word(r, PRINTED) > 0xFF),
     ("a byte of a printer that did not write", 700, |_, r| (0..8).any(|k| !wrote(r, k) && r[PAPER_BYTES + k] != 0)),
     ("a RAM place outside RAM", 400, |judge, r| kind(r, RAM_WORD) && word(r, WHICH) / 4 >= judge.ram / 4),

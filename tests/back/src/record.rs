@@ -24,6 +24,8 @@ pub const KIND: usize = 19;
 pub const WHICH: usize = 20;
 pub const OLD: usize = 21;
 pub const OLD_LOW: usize = 22;
+/// Of a RAM word, in the place of OLD_LOW.
+pub const DISTANCE: usize = 22;
 pub const UNUSED: usize = 63;
 
 /// The byte at which the eight old bytes of paper start.

@@ -45,12 +45,11 @@ impl Sequence<'_> {
     /// With a reset, if its parameters are given.
     pub fn start(what: String, call: Call, reset: Option<[u64; 3]>, met: &mut Met) -> Sequence<'_> {
         let slots = call.slots() as u64;
-        let nothing = Buffers { image: vec![], ram: vec![], paper: vec![], journal: vec![] };
         let mut sequence = Sequence {
             what,
             log: Vec::new(),
             sides: Sides::new(call),
-            began: nothing,
+            began: Buffers::default(),
             slots,
             on_hand: 0,
             next_slot: 0,

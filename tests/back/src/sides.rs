@@ -6,17 +6,18 @@ use crate::fields::{byte_name, clear_journal_place, same_but_journal_place};
 use crate::guarded::Guarded;
 use crate::lending;
 use crate::lent::Lent;
-use crate::names::{journal_byte, paper_byte, ram_byte};
+use crate::names::{index_byte, journal_byte, paper_byte, ram_byte};
 use crate::report::unpacked;
 use reference::{decode, Answer, Machine};
 
 /// What a call may write.
-#[derive(Clone, PartialEq, Eq)]
+#[derive(Clone, Default, PartialEq, Eq)]
 pub struct Buffers {
     pub image: Vec<u8>,
     pub ram: Vec<u8>,
     pub paper: Vec<u8>,
     pub journal: Vec<u8>,
+    pub index: Vec<u8>,
 }
 
 pub struct Sides {
@@ -39,6 +40,7 @@ impl Sides {
                 ram: call.ram,
                 paper: call.paper,
                 journal: call.journal,
+                index: call.index,
             },
         }
     }
@@ -50,37 +52,37 @@ impl Sides {
     pub fn reset(&mut self, parameters: [u64; 3]) -> Both {
         let ours = lending::reset(&mut self.lent, parameters);
         let [time_scale, delay, installed] = parameters;
-        let image = &mut self.theirs.image;
-        let theirs = reference::reset(image, time_scale, delay, installed);
+        let Buffers { image, index, .. } = &mut self.theirs;
+        let theirs = reference::reset(image, index, time_scale, delay, installed);
         self.compared(ours, theirs)
     }
 
     pub fn run(&mut self, budget: u64, stop: u64) -> Both {
         let ours = lending::run(&mut self.lent, budget, stop);
-        let Buffers { image, ram, paper, journal } = &mut self.theirs;
+        let Buffers { image, ram, paper, journal, index } = &mut self.theirs;
         let (execution, bootstrap) = (self.lent.execution.content(), self.lent.bootstrap.content());
         let theirs = reference::run_with_records(
-            image, execution, bootstrap, ram, paper, journal, budget, stop,
+            image, execution, bootstrap, ram, paper, journal, index, budget, stop,
         );
         self.compared(ours, theirs)
     }
 
     pub fn take_back(&mut self, steps: u64) -> Both {
         let ours = lending::take_back(&mut self.lent, steps);
-        let Buffers { image, ram, paper, journal } = &mut self.theirs;
-        let theirs = reference::take_back(image, ram, paper, journal, steps);
+        let Buffers { image, ram, paper, journal, index } = &mut self.theirs;
+        let theirs = reference::take_back(image, ram, paper, journal, index, steps);
         self.compared(ours, theirs)
     }
 
-    /// What a machine that never goes back begins from: no journal.
+    /// What a machine that never goes back begins from: no journal, no index.
     pub fn beginning(&self) -> Buffers {
         let Buffers { image, ram, paper, .. } = &self.theirs;
         let (mut image, ram, paper) = (image.clone(), ram.clone(), paper.clone());
         clear_journal_place(&mut image);
-        Buffers { image, ram, paper, journal: Vec::new() }
+        Buffers { image, ram, paper, ..Buffers::default() }
     }
 
-    /// Whether all but the journal is what so many steps from there leave.
+    /// Whether all but journal and index is what so many steps from there leave.
     pub fn is_behind(&self, beginning: &Buffers, steps: u64) -> bool {
         let Buffers { mut image, mut ram, mut paper, .. } = beginning.clone();
         let (execution, bootstrap) = (self.lent.execution.content(), self.lent.bootstrap.content());
@@ -100,19 +102,20 @@ impl Sides {
             && paper == self.theirs.paper
     }
 
-    fn compared(&self, ours: u64, theirs: Answer) -> Both {
+    pub fn compared(&self, ours: u64, theirs: Answer) -> Both {
         let mut lines = Vec::new();
         if ours != theirs.packed() {
             lines.push(format!("archive:   {}", unpacked(ours)));
             lines.push(format!("reference: {}", unpacked(theirs.packed())));
         }
         lines.extend(self.lent.wrong());
-        let Sides { lent, theirs: Buffers { image, ram, paper, journal } } = self;
+        let Sides { lent, theirs: Buffers { image, ram, paper, journal, index } } = self;
         let paper_name = |place| paper_byte(place, paper.len());
         different("image", &lent.image, image, &byte_name, &mut lines);
         different("RAM", &lent.ram, ram, &ram_byte, &mut lines);
         different("paper", &lent.paper, paper, &paper_name, &mut lines);
         different("journal", &lent.journal, journal, &journal_byte, &mut lines);
+        different("index", &lent.index, index, &index_byte, &mut lines);
         if lines.is_empty() {
             Ok(theirs)
         } else {
@@ -127,13 +130,17 @@ impl Sides {
     }
 
     /// Writes all but the journals.
-    pub fn restore(&mut self, image: &[u8], ram: &[u8], paper: &[u8]) {
-        self.lent.image.content_mut().copy_from_slice(image);
-        self.lent.ram.content_mut().copy_from_slice(ram);
-        self.lent.paper.content_mut().copy_from_slice(paper);
-        self.theirs.image.copy_from_slice(image);
-        self.theirs.ram.copy_from_slice(ram);
-        self.theirs.paper.copy_from_slice(paper);
+    pub fn restore(&mut self, left: &Buffers) {
+        let Sides { lent, theirs } = self;
+        for (ours, theirs, left) in [
+            (&mut lent.image, &mut theirs.image, &left.image),
+            (&mut lent.ram, &mut theirs.ram, &left.ram),
+            (&mut lent.paper, &mut theirs.paper, &left.paper),
+            (&mut lent.index, &mut theirs.index, &left.index),
+        ] {
+            ours.content_mut().copy_from_slice(left);
+            theirs.copy_from_slice(left);
+        }
     }
 }
 

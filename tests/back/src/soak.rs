@@ -4,6 +4,7 @@
 
 use crate::call::Call;
 use crate::dice::Dice;
+use crate::lent::empty_index;
 use crate::pool::Pool;
 use crate::program::{bootstrap_rom, execution_rom, user_program, FRAMES};
 use crate::report::different;
@@ -40,6 +41,7 @@ fn start(dice: &mut Dice) -> Call {
         ram,
         paper: pool.bytes(dice, 65_536),
         journal: pool.bytes(dice, 256 * LONGEST),
+        index: empty_index(4_096 * FRAMES),
         budget: 0,
         stop: 0,
     }

@@ -4,34 +4,52 @@ use crate::dice::Dice;
 use crate::faults::Fault;
 use crate::met::Met;
 use crate::moves;
-use crate::past::{Change, RAM_BASE};
+use crate::past::{Change, FRAME, RAM_BASE};
 use crate::program::{Home, PLACES, PROGRAM, STORES};
-use crate::screen::{self, Before, Blame, Now};
+use crate::screen::{self, Before, Blame, Frame, Now};
 use crate::session::Said;
 use crate::world::World;
 
-/// Every byte that a session may write.
+/// A record of a store (docs/RECORD.md), and the distance in it.
+const KIND: std::ops::Range<usize> = 76..80;
+const DISTANCE: std::ops::Range<usize> = 88..92;
+
+/// The journal without the distances: steps that are run again know none to a
+/// step that has fallen out of the journal since.
+fn without_distances(journal: &[u8]) -> Vec<u8> {
+    let mut journal = journal.to_vec();
+    for record in journal.chunks_exact_mut(256) {
+        if record[KIND] == [3, 0, 0, 0] {
+            record[DISTANCE].fill(0);
+        }
+    }
+    journal
+}
+
+/// Every byte that a session may write, but for distances.
 #[derive(PartialEq, Eq)]
-pub struct Kept([Vec<u8>; 4]);
+pub struct Kept([Vec<u8>; 5]);
 
 impl Kept {
     pub fn of(world: &World) -> Kept {
-        let panel = &world.session.panel;
-        let buffers = [&panel.lent.image, &panel.lent.ram, &panel.lent.paper, &panel.lent.journal];
-        Kept(buffers.map(|buffer| buffer.content().to_vec()))
+        let lent = &world.session.panel.lent;
+        let buffers = [&lent.image, &lent.ram, &lent.paper, &lent.journal, &lent.index];
+        let mut kept = buffers.map(|buffer| buffer.content().to_vec());
+        kept[3] = without_distances(&kept[3]);
+        Kept(kept)
     }
 
     pub fn check(&self, world: &World, line: &str) {
         let now = Kept::of(world);
         for (name, (now, kept)) in
-            ["image", "RAM", "paper", "journal"].iter().zip(now.0.iter().zip(&self.0))
+            ["image", "RAM", "paper", "journal", "index"].iter().zip(now.0.iter().zip(&self.0))
         {
             assert!(now == kept, "{name} after {line}");
         }
     }
 
     pub fn check_journal(&self, world: &World, line: &str) {
-        assert!(world.session.panel.lent.journal.content() == self.0[3], "journal after {line}");
+        assert!(Kept::of(world).0[3] == self.0[3], "journal after {line}");
     }
 }
 
@@ -96,15 +114,25 @@ pub fn word_of(world: &World, address: u64) -> Option<u32> {
     (address % 4 == 0 && place < world.past.ram().len() as u64).then_some(place as u32)
 }
 
+/// What is due of the frame of a word, as the machine stands.
+pub fn frame_due(world: &World, address: u64) -> Frame {
+    let frame = (address - u64::from(RAM_BASE)) as usize / FRAME;
+    let begins = u64::from(RAM_BASE) + (frame * FRAME) as u64;
+    Frame { address: begins, changed_at: world.past.frame_changed_at(frame) }
+}
+
 pub fn due(world: &World, address: u64) -> Blame {
     let past = &world.past;
     let place = match word_of(world, address) {
         None => return Blame::Refused { ram_bytes: past.ram().len() as u64 },
         Some(place) => place,
     };
+    let frame = frame_due(world, address);
     match past.last_change(place) {
-        Some(change) => Blame::Changed { address, change },
-        None => Blame::None { address, holds: past.now().word(place), on_hand: past.on_hand },
+        Some(change) => Blame::Changed { address, change, frame },
+        None => {
+            Blame::None { address, holds: past.now().word(place), on_hand: past.on_hand, frame }
+        }
     }
 }
 
@@ -123,7 +151,8 @@ fn count(world: &World, blame: &Blame, met: &mut Met) {
     met.after_take_back += u64::from(world.taken_back);
     match blame {
         Blame::Refused { .. } => {}
-        Blame::None { address, on_hand, .. } => {
+        Blame::None { address, on_hand, frame, .. } => {
+            met.frame_only += u64::from(frame.changed_at.is_some());
             let place = (*address as u32).wrapping_sub(RAM_BASE);
             let older = *on_hand + 1..past.states.len() as u64;
             met.unchanged += 1;
@@ -131,7 +160,8 @@ fn count(world: &World, blame: &Blame, met: &mut Met) {
             met.older_change += u64::from(older.rev().any(|ago| past.changed(ago, place)));
             met.equal_stores += u64::from((1..=*on_hand).any(|ago| past.stored(ago, place)));
         }
-        Blame::Changed { address, change } => {
+        Blame::Changed { address, change, frame } => {
+            met.frame_later += u64::from(frame.changed_at != Some(change.clock));
             let place = (*address as u32).wrapping_sub(RAM_BASE);
             met.changed += 1;
             met.newest += u64::from(change.ago == 1);
@@ -203,8 +233,8 @@ pub fn before(dice: &mut Dice, world: &mut World, fault: Option<Fault>, met: &mu
     world.past.take_back(change.ago);
     world.taken_back = true;
     let Change { ago, old, new, instruction, .. } = change;
-    let now = now(world);
-    let due = Before::Stands { address, took_back: ago, old, new, instruction, now };
+    let (frame, now) = (frame_due(world, address), now(world));
+    let due = Before::Stands { address, took_back: ago, old, new, instruction, frame, now };
     assert_eq!(told, due, "{line}");
     world.check(&line);
     kept.check_journal(world, &line);

@@ -31,6 +31,8 @@ pub struct Met {
     pub none_on_hand: u64,
     pub older_change: u64,
     pub equal_stores: u64,
+    pub frame_later: u64,
+    pub frame_only: u64,
     pub odd: u64,
     pub outside: u64,
     pub stood_before: u64,
@@ -93,6 +95,8 @@ impl Met {
             ("with none on hand", self.none_on_hand, 50),
             ("that an older step changed", self.older_change, 80),
             ("answers that passed over equal stores", self.equal_stores, 15),
+            ("words whose frame a later step changed", self.frame_later, 20),
+            ("words whose frame alone a step on hand changed", self.frame_only, 50),
             ("odd addresses refused", self.odd, 20),
             ("addresses beside RAM refused", self.outside, 20),
         ]);

@@ -19,6 +19,7 @@ pub const ONE_COMMAND: usize = 2;
 pub const RAM_BYTES: usize = 7;
 pub const PAPER_BYTES: usize = 8;
 pub const JOURNAL_BYTES: usize = 9;
+pub const INDEX_BYTES: usize = 10;
 
 #[derive(Clone, Copy)]
 pub enum Event {
@@ -61,6 +62,8 @@ extern "C" {
         paper_bytes: usize,
         journal: *mut u8,
         journal_bytes: usize,
+        index: *mut u8,
+        index_bytes: usize,
     ) -> u64;
 }
 
@@ -100,6 +103,7 @@ impl Panel {
             ram: nothing(),
             paper: nothing(),
             journal: nothing(),
+            index: nothing(),
         };
         Panel { session: [GUARD; SESSION_WORDS + 2], out: Guarded::new(&[0; OUT_BYTES]), lent }
     }
@@ -142,6 +146,8 @@ impl Panel {
                 lent.paper.len(),
                 lent.journal.content_mut().as_mut_ptr(),
                 lent.journal.len(),
+                lent.index.content_mut().as_mut_ptr(),
+                lent.index.len(),
             )
         };
         assert_eq!(input.touched(), None, "the line");

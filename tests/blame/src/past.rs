@@ -255,6 +255,22 @@ impl Past {
         self.ago(ago - 1).stored == Some(place)
     }
 
+    /// The clock of the last step on hand that changed a byte of the frame.
+    pub fn frame_changed_at(&self, frame: usize) -> Option<u64> {
+        let changed = |&ago: &u64| self.ago(ago).frames[frame] != self.ago(ago - 1).frames[frame];
+        let ago = (1..=self.on_hand).find(changed)?;
+        Some(self.ago(ago - 1).machine.clock)
+    }
+
+    /// Four words for each frame: 1, the clock of that step, 0; or zeros.
+    pub fn index(&self) -> Vec<u8> {
+        let entry = |frame| match self.frame_changed_at(frame) {
+            Some(clock) => [&[0, 0, 0, 1][..], &clock.to_be_bytes(), &[0; 4]].concat(),
+            None => vec![0; 16],
+        };
+        (0..self.ram.len() / FRAME).flat_map(entry).collect()
+    }
+
     pub fn last_change(&self, place: u32) -> Option<Change> {
         let ago = (1..=self.on_hand).find(|&ago| self.changed(ago, place))?;
         Some(self.change(ago, place))

@@ -4,15 +4,30 @@ use crate::past::Change;
 
 #[derive(Clone, PartialEq, Eq, Debug)]
 pub enum Blame {
-    Changed { address: u64, change: Change },
-    None { address: u64, holds: u32, on_hand: u64 },
+    Changed { address: u64, change: Change, frame: Frame },
+    None { address: u64, holds: u32, on_hand: u64, frame: Frame },
     Refused { ram_bytes: u64 },
 }
 
 #[derive(Clone, PartialEq, Eq, Debug)]
 pub enum Before {
-    Stands { address: u64, took_back: u64, old: u32, new: u32, instruction: u32, now: Now },
+    Stands {
+        address: u64,
+        took_back: u64,
+        old: u32,
+        new: u32,
+        instruction: u32,
+        frame: Frame,
+        now: Now,
+    },
     Not(Blame),
+}
+
+/// The last change in a frame, by its clock.
+#[derive(Clone, Copy, PartialEq, Eq, Debug)]
+pub struct Frame {
+    pub address: u64,
+    pub changed_at: Option<u64>,
 }
 
 #[derive(Clone, PartialEq, Eq, Debug)]
@@ -87,6 +102,20 @@ impl<'a> Rest<'a> {
         Some(number)
     }
 
+    fn frame(&mut self) -> Option<Frame> {
+        if self.text("No step on hand changed a byte of frame ").is_some() {
+            let address = self.word()?.into();
+            self.text(".\n")?;
+            return Some(Frame { address, changed_at: None });
+        }
+        self.text("The last change in frame ")?;
+        let address = self.word()?.into();
+        self.text(" was at clock ")?;
+        let changed_at = Some(self.number()?);
+        self.text(".\n")?;
+        Some(Frame { address, changed_at })
+    }
+
     /// The last line of a screen of something that was done.
     fn now(&mut self) -> Option<Now> {
         self.text("Now: PC ")?;
@@ -122,8 +151,9 @@ fn changed(screen: &str) -> Option<Blame> {
     rest.text("\nTo stand just before that step: before ")?;
     let again = rest.word()?;
     rest.text("\n")?;
+    let frame = rest.frame()?;
     let change = Change { ago, clock, pc, instruction, old, new };
-    let blame = Blame::Changed { address: address.into(), change };
+    let blame = Blame::Changed { address: address.into(), change, frame };
     (again == address).then(|| rest.ended(blame))?
 }
 
@@ -136,7 +166,8 @@ fn none(screen: &str) -> Option<Blame> {
     rest.text(".\nOn hand: ")?;
     let on_hand = rest.steps()?;
     rest.text(". An older change is not in the journal any more.\n")?;
-    rest.ended(Blame::None { address, holds, on_hand })
+    let frame = rest.frame()?;
+    rest.ended(Blame::None { address, holds, on_hand, frame })
 }
 
 fn refused(screen: &str) -> Option<Blame> {
@@ -165,8 +196,9 @@ fn stands(screen: &str) -> Option<Before> {
     rest.text(",\nby the instruction ")?;
     let instruction = rest.word()?;
     rest.text(".\n")?;
+    let frame = rest.frame()?;
     let now = rest.now()?;
-    rest.ended(Before::Stands { address, took_back, old, new, instruction, now })
+    rest.ended(Before::Stands { address, took_back, old, new, instruction, frame, now })
 }
 
 pub fn before(screen: &str) -> Before {

@@ -96,5 +96,6 @@ impl Session {
         self.panel.lent.ram = zeros(self.panel.word(RAM_BYTES));
         self.panel.lent.paper = zeros(self.panel.word(PAPER_BYTES));
         self.panel.lent.journal = zeros(self.panel.word(JOURNAL_BYTES));
+        self.panel.lent.index = zeros(self.panel.word(INDEX_BYTES));
     }
 }

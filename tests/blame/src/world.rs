@@ -2,6 +2,7 @@
 
 use crate::dice::Dice;
 use crate::guarded::Guarded;
+use crate::lent::empty_index;
 use crate::met::Met;
 use crate::panel::Panel;
 use crate::past::{Past, FRAME};
@@ -64,7 +65,7 @@ fn made(panel: Panel, manner: Manner, plan: &Plan, sizes: &Sizes) -> (Session, P
     let said = session.say(&line);
     assert!(said.screen.starts_with("The station is made"), "{line}:\n{}", said.screen);
     let mut image = vec![0; IMAGE_BYTES];
-    reset(&mut image, 1, u64::from(*delay), u64::from(*installed));
+    reset(&mut image, &mut [0; 16], 1, u64::from(*delay), u64::from(*installed));
     let ram = vec![0; plan.frames as usize * FRAME];
     let paper = vec![0; *paper as usize];
     let roms = [session.panel.lent.execution.content(), session.panel.lent.bootstrap.content()];
@@ -83,7 +84,7 @@ fn saved(
     way: u64,
 ) -> (Session, Past) {
     let mut image = vec![0; IMAGE_BYTES];
-    reset(&mut image, 1, u64::from(sizes.delay), u64::from(sizes.installed));
+    reset(&mut image, &mut [0; 16], 1, u64::from(sizes.delay), u64::from(sizes.installed));
     let mut machine = decode(&image);
     machine.next_slot = if sizes.slots == 0 { 0 } else { dice.below(sizes.slots) };
     machine.clock = match dice.below(4) {
@@ -104,6 +105,7 @@ fn saved(
     panel.lent.ram = Guarded::new(&ram);
     panel.lent.paper = Guarded::new(&paper);
     panel.lent.journal = Guarded::new(&dice.bytes(sizes.slots as usize * RECORD_BYTES));
+    panel.lent.index = Guarded::new(&empty_index(ram.len()));
     let roms = [panel.lent.execution.content(), panel.lent.bootstrap.content()];
     let past = Past::new(machine, &ram, &paper, roms, u64::from(sizes.slots));
     (Session::open(panel, manner, true), past)
@@ -151,7 +153,7 @@ impl World {
         self.check(&line);
     }
 
-    /// Image, RAM and paper beside the reference's.
+    /// Image, RAM and paper beside the reference's, and the index beside what its states say.
     pub fn check(&self, when: &str) {
         let panel = &self.session.panel;
         let image = self.past.image();
@@ -160,6 +162,7 @@ impl World {
         assert_eq!(differ, None, "the first byte of the image that differs, after {when}");
         assert!(panel.lent.ram.content() == self.past.ram(), "RAM, after {when}");
         assert!(panel.lent.paper.content() == self.past.paper(), "the paper, after {when}");
+        assert!(panel.lent.index.content() == self.past.index(), "the index, after {when}");
     }
 
     /// A new session on the same buffers, as behind a save.

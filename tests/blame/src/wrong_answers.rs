@@ -1,19 +1,22 @@
 //! What a wrong panel would show for `blame`.
 
-use crate::ask::{due, word_of};
+use crate::ask::{due, frame_due, word_of};
 use crate::faults::Fault;
-use crate::past::{Change, Past};
-use crate::screen::{self, Blame};
+use crate::past::Change;
+use crate::screen::{self, Blame, Frame};
 use crate::show;
 use crate::world::World;
 
 const SW: u32 = 0x2B;
 
 /// The newest step on hand that passes the test, shown as if it were the answer.
-fn newest(past: &Past, place: u32, address: u64, test: impl Fn(u64) -> bool) -> Blame {
+fn newest(world: &World, place: u32, address: u64, test: impl Fn(u64) -> bool) -> Blame {
+    let (past, frame) = (&world.past, frame_due(world, address));
     match (1..=past.on_hand).find(|&ago| test(ago)) {
-        Some(ago) => Blame::Changed { address, change: past.change(ago, place) },
-        None => Blame::None { address, holds: past.now().word(place), on_hand: past.on_hand },
+        Some(ago) => Blame::Changed { address, change: past.change(ago, place), frame },
+        None => {
+            Blame::None { address, holds: past.now().word(place), on_hand: past.on_hand, frame }
+        }
     }
 }
 
@@ -33,23 +36,24 @@ impl Fault {
             Fault::OddAnswered | Fault::UpperHalfDropped => due(world, at),
             Fault::OldestWriter => {
                 let oldest = (1..=past.on_hand).rev().find(|&ago| changed(ago))?;
-                newest(past, place, at, |ago| ago == oldest)
+                newest(world, place, at, |ago| ago == oldest)
             }
-            Fault::EqualStoreCounts => newest(past, place, at, |ago| past.stored(ago, place)),
+            Fault::EqualStoreCounts => newest(world, place, at, |ago| past.stored(ago, place)),
             Fault::BeyondTheJournal => {
                 let ago = (1..past.states.len() as u64).find(|&ago| changed(ago))?;
-                Blame::Changed { address, change: past.change(ago, place) }
+                let frame = frame_due(world, address);
+                Blame::Changed { address, change: past.change(ago, place), frame }
             }
             Fault::OldestOverlooked => {
-                newest(past, place, at, |ago| ago < past.on_hand && changed(ago))
+                newest(world, place, at, |ago| ago < past.on_hand && changed(ago))
             }
-            Fault::NewestOverlooked => newest(past, place, at, |ago| ago > 1 && changed(ago)),
-            Fault::NoneThoughChanged => newest(past, place, at, |_| false),
-            Fault::AnyWordOfTheFrame => newest(past, place, at, |ago| {
+            Fault::NewestOverlooked => newest(world, place, at, |ago| ago > 1 && changed(ago)),
+            Fault::NoneThoughChanged => newest(world, place, at, |_| false),
+            Fault::AnyWordOfTheFrame => newest(world, place, at, |ago| {
                 let stored = past.ago(ago - 1).stored;
                 stored.map_or(false, |other| other >> 12 == place >> 12 && past.changed(ago, other))
             }),
-            Fault::PartStoresOverlooked => newest(past, place, at, |ago| {
+            Fault::PartStoresOverlooked => newest(world, place, at, |ago| {
                 changed(ago) && past.instruction(past.ago(ago)) >> 26 == SW
             }),
             Fault::LastWordRefused if place as usize + 4 == past.ram().len() => {
@@ -76,6 +80,23 @@ impl Fault {
         }
     }
 
+    /// The word's frame, made wrong.
+    fn in_frame(self, world: &World, frame: &mut Frame) {
+        let number = (frame.address & 0xFF_FFFF) as usize >> 12;
+        let frames = world.past.ram().len() >> 12;
+        match self {
+            Fault::FrameOfTheNext => {
+                frame.changed_at = world.past.frame_changed_at((number + 1) % frames)
+            }
+            Fault::FrameAddressOfTheNext => frame.address += 0x1000,
+            Fault::FrameClockOneMore => {
+                frame.changed_at = frame.changed_at.map(|clock| clock.wrapping_add(1))
+            }
+            Fault::FrameNoneThoughChanged => frame.changed_at = None,
+            _ => {}
+        }
+    }
+
     /// The screen of `blame` as this panel would show it.
     pub fn shown(self, world: &World, address: u64, screen: &str) -> String {
         let mut told = screen::blame(screen);
@@ -83,8 +104,12 @@ impl Fault {
             told = other;
         }
         match &mut told {
-            Blame::Changed { change, .. } => self.number(world, change),
-            Blame::None { holds, on_hand, .. } => {
+            Blame::Changed { change, frame, .. } => {
+                self.number(world, change);
+                self.in_frame(world, frame);
+            }
+            Blame::None { holds, on_hand, frame, .. } => {
+                self.in_frame(world, frame);
                 *holds ^= u32::from(self == Fault::HoldsAnother);
                 *on_hand += u64::from(self == Fault::OnHandOneMore);
             }

@@ -1,7 +1,8 @@
 //! What a wrong panel would leave behind, with what it would show for `before`.
 
-use crate::ask::due;
+use crate::ask::{due, frame_due};
 use crate::faults::Fault;
+use crate::lent::empty_index;
 use crate::panel::Panel;
 use crate::screen::{self, Before, Blame};
 use crate::session::Said;
@@ -26,11 +27,13 @@ fn step_back(world: &mut World) {
     let panel = &mut world.session.panel;
     let journal = panel.lent.journal.content().to_vec();
     let (image, ram) = (panel.lent.image.content_mut(), panel.lent.ram.content_mut());
-    take_back(image, ram, panel.lent.paper.content_mut(), &journal, 1);
+    let mut index = empty_index(ram.len());
+    take_back(image, ram, panel.lent.paper.content_mut(), &journal, &mut index, 1);
 }
 
 fn step_on(world: &mut World) {
     let panel = &mut world.session.panel;
+    let mut index = empty_index(panel.lent.ram.len());
     run_with_records(
         panel.lent.image.content_mut(),
         panel.lent.execution.content(),
@@ -38,6 +41,7 @@ fn step_on(world: &mut World) {
         panel.lent.ram.content_mut(),
         panel.lent.paper.content_mut(),
         panel.lent.journal.content_mut(),
+        &mut index,
         1,
         0,
     );
@@ -53,6 +57,7 @@ impl Fault {
             Fault::BlameWritesRam => flip(panel.lent.ram.content_mut()),
             Fault::BlameWritesPaper => flip(panel.lent.paper.content_mut()),
             Fault::BlameWritesJournal => flip(panel.lent.journal.content_mut()),
+            Fault::BlameWritesIndex => flip(panel.lent.index.content_mut()),
             _ => {}
         }
     }
@@ -76,9 +81,10 @@ impl Fault {
         };
         self.wrong_stand(world);
         let mut told = screen::before(&said.screen);
-        if let Before::Stands { took_back, old, new, instruction, .. } = &mut told {
+        if let Before::Stands { took_back, old, new, instruction, frame, .. } = &mut told {
             match self {
                 Fault::BeforeOldForNew => *new = *old,
+                Fault::BeforeFrameOfNow => *frame = frame_due(world, address),
                 Fault::BeforeTookOneMore => *took_back += 1,
                 Fault::BeforeInstructionOfNow => {
                     *instruction = world.past.instruction_now(change.pc)
@@ -94,6 +100,7 @@ impl Fault {
         let next_slot = world.past.next_slot as u32;
         let ram = world.past.ram().to_vec();
         let paper = world.past.paper().to_vec();
+        let index = world.past.index();
         let panel = &mut world.session.panel;
         match self {
             Fault::BeforeOneStepLate => step_on(world),
@@ -102,6 +109,7 @@ impl Fault {
             Fault::BeforeKeepsNextSlot => change(panel, |machine| machine.next_slot = next_slot),
             Fault::BeforeKeepsRam => panel.lent.ram.content_mut().copy_from_slice(&ram),
             Fault::BeforeKeepsPaper => panel.lent.paper.content_mut().copy_from_slice(&paper),
+            Fault::BeforeKeepsIndex => panel.lent.index.content_mut().copy_from_slice(&index),
             Fault::BeforeWritesJournal => flip(panel.lent.journal.content_mut()),
             _ => {}
         }

@@ -33,15 +33,17 @@ fn unless(wrong: Option<String>, answer: u64) -> Result<u64, String> {
     }
 }
 
-/// The packed answer; the image is written in place.
+/// The packed answer; image and index are written in place.
 pub fn reset(
     image: &mut Guarded,
+    index: &mut Guarded,
     time_scale: u64,
     printer_delay: u64,
     installed: u64,
 ) -> Result<u64, String> {
-    let answer = lavushmir::reset(image.content_mut(), time_scale, printer_delay, installed);
-    unless(image.guards_hurt(), answer)
+    let (image_bytes, index_bytes) = (image.content_mut(), index.content_mut());
+    let answer = lavushmir::reset(image_bytes, index_bytes, time_scale, printer_delay, installed);
+    unless(image.guards_hurt().or_else(|| index.guards_hurt()), answer)
 }
 
 /// 1 if the image keeps the rules, 0 if not.

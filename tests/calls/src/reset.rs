@@ -1,4 +1,4 @@
-//! Reset: the archive's answer and every byte of the image beside the
+//! Reset: the archive's answer and every byte of image and index beside the
 //! reference's.
 
 use crate::archive;
@@ -9,6 +9,9 @@ use crate::guarded::Guarded;
 use crate::report::{at_least, different, hex, said, unpacked};
 
 const LEAST_CALLS: u64 = 100_000;
+
+/// What is lent as an index; tests/index has its lengths.
+const INDEX: [u8; 32] = [0xA5; 32];
 
 /// Time scale, printer delay, installed map.
 type Numbers = [u64; 3];
@@ -60,11 +63,14 @@ impl Counts {
 
 fn one(before: &[u8], numbers: Numbers, counts: &mut Counts) {
     let [time_scale, printer_delay, installed] = numbers;
-    let mut expected = before.to_vec();
-    let reference = reference::reset(&mut expected, time_scale, printer_delay, installed).packed();
-    let mut image = Guarded::new(before);
-    let archive = archive::reset(&mut image, time_scale, printer_delay, installed);
-    if archive != Ok(reference) || image.content() != expected {
+    let (mut expected, mut expected_index) = (before.to_vec(), INDEX);
+    let reference =
+        reference::reset(&mut expected, &mut expected_index, time_scale, printer_delay, installed)
+            .packed();
+    let (mut image, mut index) = (Guarded::new(before), Guarded::new(&INDEX));
+    let archive = archive::reset(&mut image, &mut index, time_scale, printer_delay, installed);
+    let same = image.content() == expected && index.content() == expected_index;
+    if archive != Ok(reference) || !same {
         let mut lines = vec![
             format!("image of {} bytes", before.len()),
             format!("time scale {time_scale} ({time_scale:#x})"),
@@ -72,6 +78,8 @@ fn one(before: &[u8], numbers: Numbers, counts: &mut Counts) {
             format!("installed map {installed} ({installed:#x})"),
             format!("archive:   {}", said(&archive, unpacked)),
             format!("reference: {}", unpacked(reference)),
+            format!("index: archive {}", hex(index.content())),
+            format!("index: reference {}", hex(&expected_index)),
         ];
         let place = (0..before.len()).find(|place| image.content()[*place] != expected[*place]);
         lines.push(match place {

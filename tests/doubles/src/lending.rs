@@ -26,6 +26,6 @@ pub fn take_back(lent: &mut Lent, steps: u64) -> u64 {
     if FAULT.with(Cell::get).is_none() {
         return archive::take_back(lent, steps);
     }
-    let Slices { image, ram, paper, journal, .. } = lent.slices();
-    reference::take_back(image, ram, paper, journal, steps).packed()
+    let Slices { image, ram, paper, journal, index, .. } = lent.slices();
+    reference::take_back(image, ram, paper, journal, index, steps).packed()
 }

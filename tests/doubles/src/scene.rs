@@ -5,6 +5,7 @@ use crate::asm::TLBP;
 use crate::call::Call;
 use crate::code::{self, Code};
 use crate::dice::Dice;
+use crate::lent::empty_index;
 use crate::lines;
 use crate::look::RAM;
 use crate::table::{self, Spot};
@@ -88,6 +89,7 @@ fn buffers(dice: &mut Dice, bytes: &[u8], frames: u32) -> Call {
         ram: bytes[..0x1000 * frames as usize].to_vec(),
         paper: bytes[..paper].to_vec(),
         journal: bytes[..256 * slots].to_vec(),
+        index: empty_index(0x1000 * frames as usize),
         budget: 0,
         stop: if dice.chance(2) { 0 } else { dice.pick(&STOPS) },
     }

@@ -29,9 +29,10 @@ impl Slices<'_> {
 
     /// One step, also where a run would stop before it; then without a record.
     fn step(&mut self, stop: u64) -> u8 {
-        let Slices { image, execution, bootstrap, ram, paper, journal } = self;
-        let answer =
-            reference::run_with_records(image, execution, bootstrap, ram, paper, journal, 1, stop);
+        let Slices { image, execution, bootstrap, ram, paper, journal, index } = self;
+        let answer = reference::run_with_records(
+            image, execution, bootstrap, ram, paper, journal, index, 1, stop,
+        );
         if answer.reason != TWO_MATCHES {
             return answer.reason;
         }

@@ -118,8 +118,10 @@ fn system_call(machine: &Machine, station: &Station, written: &mut Vec<u8>) -> O
 
 impl Session<'_> {
     fn reset(&mut self, delay: u64) -> Result<(), String> {
-        let ours = lavushmir::reset(&mut self.ours.image, 1, delay, 0xFF);
-        let theirs = reset(&mut self.theirs.image, 1, delay, 0xFF).packed();
+        let Station { image, index, .. } = &mut self.ours;
+        let ours = lavushmir::reset(image, index, 1, delay, 0xFF);
+        let Station { image, index, .. } = &mut self.theirs;
+        let theirs = reset(image, index, 1, delay, 0xFF).packed();
         self.compared("reset", ours, theirs)
     }
 
@@ -129,11 +131,12 @@ impl Session<'_> {
         let budget = u64::from(dice.below(2 << bits)).min(1_000_000);
         let stop = dice.pick(&[1, 2, 1 << 32, u64::MAX]);
         let Roms { execution, bootstrap } = self.roms;
-        let Station { image, ram, paper, journal } = &mut self.ours;
-        let ours = lavushmir::run(image, execution, bootstrap, ram, paper, journal, budget, stop);
-        let Station { image, ram, paper, journal } = &mut self.theirs;
+        let Station { image, ram, paper, journal, index } = &mut self.ours;
+        let ours =
+            lavushmir::run(image, execution, bootstrap, ram, paper, journal, index, budget, stop);
+        let Station { image, ram, paper, journal, index } = &mut self.theirs;
         let answer =
-            run_with_records(image, execution, bootstrap, ram, paper, journal, budget, stop);
+            run_with_records(image, execution, bootstrap, ram, paper, journal, index, budget, stop);
         self.compared(&format!("a run of {budget}"), ours, answer.packed())?;
         if answer.number != 0 {
             return Err(format!("after {} steps: refused with {}", self.steps, answer.number));

@@ -31,16 +31,18 @@ pub struct Station {
     pub ram: Vec<u8>,
     pub paper: Vec<u8>,
     pub journal: Vec<u8>,
+    pub index: Vec<u8>,
 }
 
 impl Station {
-    /// RAM, paper and journal hold anything where nothing was laid.
+    /// RAM, paper, journal and index hold anything where nothing was laid.
     pub fn new(segments: &[Segment], setting: &Setting, slots: usize, dice: &mut Dice) -> Station {
         let mut station = Station {
             image: dice.bytes(IMAGE_BYTES),
             ram: dice.bytes(FRAMES as usize * FRAME),
             paper: dice.bytes(PAPER),
             journal: dice.bytes(256 * slots),
+            index: dice.bytes(16 * FRAMES as usize),
         };
         station.ram[..FRAME].fill(0);
         station.set_word(STATUS_WORD, setting.status);
@@ -101,6 +103,7 @@ impl Station {
             ("RAM", &self.ram, &other.ram),
             ("paper", &self.paper, &other.paper),
             ("journal", &self.journal, &other.journal),
+            ("index", &self.index, &other.index),
         ];
         let (name, ours, theirs) = parts.iter().find(|(_, ours, theirs)| ours != theirs)?;
         let at = ours.iter().zip(theirs.iter()).position(|(our, their)| our != their)?;

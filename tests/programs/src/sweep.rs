@@ -124,7 +124,7 @@ impl Swept {
 /// out: interrupts are off in it.
 fn steps_of(start: &Station, roms: &Roms, total: u64) -> Vec<Step> {
     let mut station = start.clone();
-    lavushmir::reset(&mut station.image, 1, DELAY, 0xFF);
+    lavushmir::reset(&mut station.image, &mut station.index, 1, DELAY, 0xFF);
     let mut steps = Vec::new();
     for number in 1..=total as u32 {
         let machine = station.machine();
@@ -132,8 +132,9 @@ fn steps_of(start: &Station, roms: &Roms, total: u64) -> Vec<Step> {
             let branch = (machine.slot_flag == 1).then_some(machine.branch_address);
             steps.push(Step { number, pc: machine.pc, branch });
         }
-        let Station { image, ram, paper, journal } = &mut station;
-        lavushmir::run(image, &roms.execution, &roms.bootstrap, ram, paper, journal, 1, 0);
+        let Station { image, ram, paper, journal, index } = &mut station;
+        let Roms { execution, bootstrap } = roms;
+        lavushmir::run(image, execution, bootstrap, ram, paper, journal, index, 1, 0);
     }
     steps
 }

@@ -24,7 +24,7 @@ pub struct Reference {
 impl Reference {
     pub fn new() -> Reference {
         let mut image = [0; IMAGE_BYTES];
-        assert_eq!(reset(&mut image, 1, 1, 0).number, 0);
+        assert_eq!(reset(&mut image, &mut [0; 16], 1, 1, 0).number, 0);
         let mut machine = decode(&image);
         machine.status = Status(0);
         Reference { ram: vec![0; RAM_BYTES], machine }

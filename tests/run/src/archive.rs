@@ -6,7 +6,7 @@ use crate::lending;
 use crate::lent::Lent;
 
 impl Lent {
-    /// The packed answer; image, RAM, paper and journal are written in place.
+    /// The packed answer; all but the ROMs are written in place.
     pub fn run(&mut self, budget: u64, stop: u64) -> Result<u64, String> {
         let answer = lending::run(self, budget, stop);
         self.wrong().map_or(Ok(answer), Err)
@@ -19,6 +19,7 @@ impl Lent {
             ram: self.ram.content().to_vec(),
             paper: self.paper.content().to_vec(),
             journal: self.journal.content().to_vec(),
+            index: self.index.content().to_vec(),
         }
     }
 }

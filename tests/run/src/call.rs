@@ -12,6 +12,7 @@ pub struct Call {
     pub ram: Vec<u8>,
     pub paper: Vec<u8>,
     pub journal: Vec<u8>,
+    pub index: Vec<u8>,
     pub budget: u64,
     pub stop: u64,
 }
@@ -24,6 +25,7 @@ pub struct Outcome {
     pub ram: Vec<u8>,
     pub paper: Vec<u8>,
     pub journal: Vec<u8>,
+    pub index: Vec<u8>,
 }
 
 impl Outcome {
@@ -54,6 +56,7 @@ impl Call {
             ram: Guarded::new(&self.ram),
             paper: Guarded::new(&self.paper),
             journal: Guarded::new(&self.journal),
+            index: Guarded::new(&self.index),
         }
     }
 
@@ -70,6 +73,7 @@ impl Call {
             ram: self.ram.clone(),
             paper: self.paper.clone(),
             journal: self.journal.clone(),
+            index: self.index.clone(),
         };
         let answer = reference::run_with_records(
             &mut outcome.image,
@@ -78,6 +82,7 @@ impl Call {
             &mut outcome.ram,
             &mut outcome.paper,
             &mut outcome.journal,
+            &mut outcome.index,
             budget,
             self.stop,
         );
@@ -94,6 +99,7 @@ impl Call {
         later.ram = outcome.ram;
         later.paper = outcome.paper;
         later.journal = outcome.journal;
+        later.index = outcome.index;
         later.stop = self.stop;
         later
     }

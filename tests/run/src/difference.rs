@@ -5,7 +5,7 @@ use crate::archive;
 use crate::call::{Call, Outcome};
 use crate::fields::byte_name;
 use crate::look::{route, word_at_pc};
-use crate::names::{journal_byte, paper_byte, ram_byte};
+use crate::names::{index_byte, journal_byte, paper_byte, ram_byte};
 use crate::report::{different, said, unpacked};
 use reference::{decode, Machine, Memory};
 
@@ -121,6 +121,7 @@ fn bytes(call: &Call, got: &Outcome, expected: &Outcome) -> Vec<String> {
     count += compare(&mut lines, &ram_byte, [&got.ram, &expected.ram, &call.ram]);
     count += compare(&mut lines, &paper, [&got.paper, &expected.paper, &call.paper]);
     count += compare(&mut lines, &journal_byte, [&got.journal, &expected.journal, &call.journal]);
+    count += compare(&mut lines, &index_byte, [&got.index, &expected.index, &call.index]);
     lines.push(format!("differing bytes: {count}"));
     lines
 }

@@ -1,4 +1,5 @@
-//! Names for the bytes of the journal, RAM and paper, by docs/RECORD.md.
+//! Names for the bytes of the journal, the index, RAM and paper, by
+//! docs/RECORD.md.
 
 use crate::look::RAM;
 use reference::layout::{OLD_LOW, PAPER_BYTES, PRINTERS, PRINTER_WORDS, UNUSED};
@@ -29,7 +30,7 @@ const FIRST: [&str; OLD_LOW + 1] = [
     "kind",
     "which",
     "old",
-    "old low",
+    "old low, or distance",
 ];
 
 const PRINTER: [&str; PRINTER_WORDS] = ["STATUS", "COMMAND", "DATA0", "ticks left", "paper count"];
@@ -49,6 +50,11 @@ fn record_byte(byte: usize) -> String {
 pub fn journal_byte(place: usize) -> String {
     let (slot, byte) = (place / 256, place % 256);
     format!("journal, slot {slot}, byte {byte} (word {}, {})", byte / 4, record_byte(byte))
+}
+
+pub fn index_byte(place: usize) -> String {
+    let words = ["named", "clock high", "clock low", "0"];
+    format!("index, frame {}, byte {} ({})", place / 16, place % 16, words[place % 16 / 4])
 }
 
 pub fn ram_byte(place: usize) -> String {

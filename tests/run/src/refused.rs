@@ -4,6 +4,7 @@ use crate::call::Call;
 use crate::dice::Dice;
 use crate::difference::explain;
 use crate::lengths::Lengths;
+use crate::lent::empty_index;
 use crate::pool::Pool;
 use crate::report::different;
 use crate::scene::STOPS;
@@ -49,6 +50,7 @@ pub fn lent(dice: &mut Dice, pool: &Pool, values: &[u64; 7], image: Vec<u8>) -> 
         ram: bytes(dice, RAM),
         paper: bytes(dice, PAPER),
         journal: bytes(dice, JOURNAL),
+        index: empty_index(values[RAM] as usize),
         budget: values[BUDGET],
         stop: if short { 0 } else { dice.pick(&STOPS) },
     }

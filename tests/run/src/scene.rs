@@ -4,6 +4,7 @@ use crate::call::Call;
 use crate::dice::Dice;
 use crate::handlers::put_handlers;
 use crate::lengths::{lengths, Lengths};
+use crate::lent::empty_index;
 use crate::pool::Pool;
 use crate::{code, control, printers, registers, table, wild};
 use reference::{encode, Machine, IMAGE_BYTES};
@@ -44,6 +45,7 @@ fn buffers(dice: &mut Dice, pool: &Pool, lengths: &Lengths) -> Call {
         ram: pool.code(dice, lengths.ram as usize),
         paper: pool.bytes(dice, lengths.paper as usize),
         journal: pool.bytes(dice, lengths.slots as usize * 256),
+        index: empty_index(lengths.ram as usize),
         budget: budget(dice, stop),
         stop,
     }

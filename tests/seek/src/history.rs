@@ -9,6 +9,7 @@ use reference::{decode, reset, run, run_with_records, take_back, IMAGE_BYTES};
 
 const RAM_BYTES: usize = 4_096;
 const RECORD_BYTES: usize = 256;
+const INDEX_BYTES: usize = 16;
 
 pub struct History {
     pub slots: usize,
@@ -17,6 +18,7 @@ pub struct History {
     pub ram: Vec<u8>,
     pub paper: Vec<u8>,
     pub journal: Vec<u8>,
+    pub index: Vec<u8>,
     pub past: Past,
     pub taken_back: bool,
 }
@@ -24,8 +26,8 @@ pub struct History {
 impl History {
     /// After a reset, with any bytes in the journal and small values in RAM.
     pub fn new(dice: &mut Dice, slots: usize) -> History {
-        let mut image = vec![0; IMAGE_BYTES];
-        let answer = reset(&mut image, 1, 10, 1);
+        let (mut image, mut index) = (vec![0; IMAGE_BYTES], vec![0; INDEX_BYTES]);
+        let answer = reset(&mut image, &mut index, 1, 10, 1);
         assert_eq!(answer.number, 0, "the reset was refused");
         let mut ram = vec![0; RAM_BYTES];
         for place in PLACES {
@@ -40,6 +42,7 @@ impl History {
             ram,
             paper: vec![0; 64],
             journal,
+            index,
             past,
             taken_back: false,
         }
@@ -67,6 +70,7 @@ impl History {
             &mut self.ram,
             &mut self.paper,
             &mut self.journal,
+            &mut self.index,
             steps,
             0,
         );
@@ -76,8 +80,8 @@ impl History {
     }
 
     pub fn take_back(&mut self, steps: usize) {
-        let answer =
-            take_back(&mut self.image, &mut self.ram, &mut self.paper, &self.journal, steps as u64);
+        let History { image, ram, paper, journal, index, .. } = self;
+        let answer = take_back(image, ram, paper, journal, index, steps as u64);
         assert_eq!(answer.number, 0, "the take-back was refused");
         let left = self.past.moments.len() - steps;
         self.past.moments.truncate(left);

@@ -4,7 +4,7 @@
 use crate::archive;
 use crate::faults::Fault;
 use crate::lavushmir;
-use crate::lent::{Lent, Slices};
+use crate::lent::Lent;
 use crate::{wrong_back, wrong_convert, wrong_reset};
 use std::cell::Cell;
 
@@ -23,7 +23,7 @@ fn fault() -> Option<Fault> {
 pub fn reset(lent: &mut Lent, parameters: [u64; 3]) -> u64 {
     match fault() {
         None => archive::reset(lent, parameters),
-        Some(fault) => wrong_reset::reset(fault, lent.image.content_mut(), parameters),
+        Some(fault) => wrong_reset::reset(fault, lent.slices(), parameters),
     }
 }
 
@@ -37,10 +37,7 @@ pub fn run(lent: &mut Lent, budget: u64, stop: u64) -> u64 {
 pub fn take_back(lent: &mut Lent, steps: u64) -> u64 {
     match fault() {
         None => archive::take_back(lent, steps),
-        Some(fault) => {
-            let Slices { image, ram, paper, journal, .. } = lent.slices();
-            wrong_back::take_back(fault, image, ram, paper, journal, steps).packed()
-        }
+        Some(fault) => wrong_back::take_back(fault, lent.slices(), steps).packed(),
     }
 }
 

@@ -4,6 +4,7 @@
 use crate::asm::*;
 use crate::call::Call;
 use crate::dice::Dice;
+use crate::lent::empty_index;
 use crate::lines;
 use crate::look::{DIRTY, GLOBAL, RAM, VALID};
 use crate::pool::Pool;
@@ -77,6 +78,7 @@ fn buffers(dice: &mut Dice, pool: &Pool) -> Call {
         ram: pool.code(dice, 0x1000 * frames),
         paper: pool.bytes(dice, paper),
         journal: pool.bytes(dice, 256 * slots),
+        index: empty_index(0x1000 * frames),
         budget: budget(dice),
         stop: if dice.chance(3) { dice.pick(&STOPS) } else { 0 },
     }

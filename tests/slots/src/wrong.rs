@@ -194,8 +194,10 @@ impl Slices<'_> {
     }
 
     fn reference(&mut self, budget: u64, stop: u64) -> Answer {
-        let Slices { image, execution, bootstrap, ram, paper, journal } = self;
-        reference::run_with_records(image, execution, bootstrap, ram, paper, journal, budget, stop)
+        let Slices { image, execution, bootstrap, ram, paper, journal, index } = self;
+        reference::run_with_records(
+            image, execution, bootstrap, ram, paper, journal, index, budget, stop,
+        )
     }
 
     /// One step, then its fault.
@@ -251,9 +253,9 @@ impl Slices<'_> {
 
     /// A run that should have been refused.
     fn on_mended(&mut self, mut image: Vec<u8>, budget: u64, stop: u64) -> Answer {
-        let Slices { execution, bootstrap, ram, paper, journal, .. } = self;
+        let Slices { execution, bootstrap, ram, paper, journal, index, .. } = self;
         let image = &mut image;
-        reference::run_with_records(image, execution, bootstrap, ram, paper, journal, budget, stop)
+        Slices { image, execution, bootstrap, ram, paper, journal, index }.reference(budget, stop)
     }
 
     fn done(&mut self, fault: Fault, reason: u8, steps: u32) -> Answer {

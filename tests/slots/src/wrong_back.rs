@@ -1,6 +1,7 @@
 //! A take-back that is wrong on purpose: the reference's, with one fault.
 
 use crate::faults::Fault::{self, *};
+use crate::lent::Slices;
 use crate::record::{self, BRANCH_ADDRESS, SLOT_FLAG};
 use reference::{decode, encode, Answer, Machine};
 
@@ -33,16 +34,10 @@ fn spoil(fault: Fault, before: &Machine, after: &mut Machine) {
     }
 }
 
-pub fn take_back(
-    fault: Fault,
-    image: &mut [u8],
-    ram: &mut [u8],
-    paper: &mut [u8],
-    journal: &[u8],
-    steps: u64,
-) -> Answer {
+pub fn take_back(fault: Fault, lent: Slices, steps: u64) -> Answer {
+    let Slices { image, ram, paper, journal, index, .. } = lent;
     let before = decode(image);
-    let answer = reference::take_back(image, ram, paper, &mended(fault, journal), steps);
+    let answer = reference::take_back(image, ram, paper, &mended(fault, journal), index, steps);
     if answer.number == 0 && steps > 0 {
         let mut after = decode(image);
         spoil(fault, &before, &mut after);

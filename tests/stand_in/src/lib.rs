@@ -19,12 +19,14 @@ unsafe fn write<'a>(buffer: *mut u8, bytes: usize) -> &'a mut [u8] {
 pub unsafe extern "C" fn lavushmir_reset(
     image: *mut u8,
     image_bytes: usize,
+    index: *mut u8,
+    index_bytes: usize,
     time_scale: u64,
     printer_delay: u64,
     installed: u64,
 ) -> u64 {
-    let image = write(image, image_bytes);
-    reference::reset(image, time_scale, printer_delay, installed).packed()
+    let (image, index) = (write(image, image_bytes), write(index, index_bytes));
+    reference::reset(image, index, time_scale, printer_delay, installed).packed()
 }
 
 #[no_mangle]
@@ -41,6 +43,8 @@ pub unsafe extern "C" fn lavushmir_run(
     paper_bytes: usize,
     journal: *mut u8,
     journal_bytes: usize,
+    index: *mut u8,
+    index_bytes: usize,
     budget: u64,
     stop_at_exceptions: u64,
 ) -> u64 {
@@ -51,6 +55,7 @@ pub unsafe extern "C" fn lavushmir_run(
         write(ram, ram_bytes),
         write(paper, paper_bytes),
         write(journal, journal_bytes),
+        write(index, index_bytes),
         budget,
         stop_at_exceptions,
     )
@@ -67,6 +72,8 @@ pub unsafe extern "C" fn lavushmir_take_back(
     paper_bytes: usize,
     journal: *const u8,
     journal_bytes: usize,
+    index: *mut u8,
+    index_bytes: usize,
     steps: u64,
 ) -> u64 {
     reference::take_back(
@@ -74,7 +81,36 @@ pub unsafe extern "C" fn lavushmir_take_back(
         write(ram, ram_bytes),
         write(paper, paper_bytes),
         read(journal, journal_bytes),
+        write(index, index_bytes),
         steps,
+    )
+    .packed()
+}
+
+#[no_mangle]
+pub unsafe extern "C" fn lavushmir_last_write(
+    image: *const u8,
+    image_bytes: usize,
+    ram: *const u8,
+    ram_bytes: usize,
+    paper: *const u8,
+    paper_bytes: usize,
+    journal: *const u8,
+    journal_bytes: usize,
+    index: *const u8,
+    index_bytes: usize,
+    address: u64,
+    answer: *mut u8,
+    answer_bytes: usize,
+) -> u64 {
+    reference::last_write(
+        read(image, image_bytes),
+        read(ram, ram_bytes),
+        read(paper, paper_bytes),
+        read(journal, journal_bytes),
+        read(index, index_bytes),
+        address,
+        write(answer, answer_bytes),
     )
     .packed()
 }

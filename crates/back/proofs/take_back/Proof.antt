@@ -1,13 +1,20 @@
--- `back::take_back` meets its contract: one of the three answers of `Answers`.
+-- `back::take_back` meets its contract: what can be taken back is undone, and the two words of the journal are turned back.
 use borrow.Author.Needs.{needs}
-use borrow.Author.Tests.{not-true, not-false}
-use mathlib.Core.Path.{refl, sym, _∙_}
+use Prim.Native.Nat.{_≤_}
+use mathlib.Core.Bool.{true}
+use mathlib.Core.Path.{_≡_, refl}
 use native.Mathlib.Nat.{le-trans}
 use native.Mathlib.Omega.{arith}
+use lib.ListN.{length}
 use Rattle.turn.specs.Buffers.{besideBack}
-use Rattle.back.proofs.Answers.{takes-far, takes-bad, takes-done}
+use Rattle.back.proofs.Answers.{fits, done-says, takes-done}
 use Rattle.back.proofs.take_back.Statement.{statement}
 use Rattle.back.proofs.take_back.Tie as tie
+
+-- what was asked says that so many are on hand, and that their records are well formed
+said : (c : tie.Start) → let a = c .args in
+    (a .steps ≤ a .m .journal .«on_hand») × (fits (a .steps) (a .m) (length (a .ram .now)) (length (a .paper .now)) (a .journal .now) ≡ true)
+said c = let a = c .args in done-says (a .steps) (a .m) (length (a .ram .now)) (length (a .paper .now)) (a .journal .now) (c .pre .1)
 
 cast-hand : tie.Need-cast-hand
 cast-hand c = search needs
@@ -15,45 +22,27 @@ cast-hand c = search needs
 cast-next : tie.Need-cast-next
 cast-next c = search needs
 
-returns : tie.Need-returns
-returns c =
-    let a = c .before .before .before .before .before .before .before .args in
-    takes-far (a .steps) (a .m) (besideBack (a .ram .now) (a .paper .now) (a .journal .now)) (c .if1 .taken)
-
-all-fit-requires : tie.Need-all-fit-requires
-all-fit-requires c κs = search needs
-
-returns-2 : tie.Need-returns-2
-returns-2 c =
-    let near = c .before .before in
-    let a = near .before .before .before .before .before .before .before .args in
-    takes-bad (a .steps) (a .m) (besideBack (a .ram .now) (a .paper .now) (a .journal .now)) (near .if1 .left)
-    (sym (c .before .all-fit .ensures) ∙ not-true _ (c .if2 .taken))
-
 undo-all-requires : tie.Need-undo-all-requires
 undo-all-requires c κs =
-    let fit = c .before .before .before in
-    let near = fit .before in
-    let sound = near .before .before .before .before .before .before .before .pre .ready .sound in
-    (sound .place, (le-trans (near .if1 .left) (sound .most), sym (fit .all-fit .ensures) ∙ not-false _ (c .before .before .if2 .left)))
+    let start = c .before .before .before .before .before .before .before .before .before .before in
+    let sound = start .pre .0 .ready .sound in
+    (sound .place, ((said start .0, sound .most), (omega (arith, start .pre .0 .framed .sixteen-each), said start .1)))
 
 sub-fewer : tie.Need-sub-fewer
-sub-fewer c = search needs
+sub-fewer c = said (c .before .before .before .before .before .before .before .before .before .before .before .before .before .before .before .before .before .before .before) .0
 
 cast-fewer : tie.Need-cast-fewer
 cast-fewer c = search needs
 
 slot-back-requires : tie.Need-slot-back-requires
 slot-back-requires c κs =
-    let near = c .before .before .before .before .before .before .before .before .before .before .before in
-    let sound = near .before .before .before .before .before .before .before .pre .ready .sound in
-    (sound .place, le-trans (near .if1 .left) (sound .most))
+    let start = c .before .before .before .before .before .before .before .before .before .before .before .before .before .before .before .before .before .before .before in
+    let sound = start .pre .0 .ready .sound in
+    (sound .place, le-trans (said start .0) (sound .most))
 
 -- a journal has at most 65536 slots
 cast-turned : tie.Need-cast-turned
-cast-turned c =
-    let near = c .before .before .before .before .before .before .before .before .before .before .before .before in
-    omega (arith, c .slot-back .ensures .1, near .before .before .before .before .before .before .before .pre .ready .few)
+cast-turned c = omega (arith, c .slot-back .ensures .1, c .before .before .before .before .before .before .before .before .before .before .before .before .before .before .before .before .before .before .before .before .pre .0 .ready .few)
 
 same-length : tie.Need-same-length
 same-length c = search needs
@@ -61,15 +50,17 @@ same-length c = search needs
 same-length-2 : tie.Need-same-length-2
 same-length-2 c = search needs
 
-returns-3 : tie.Need-returns-3
-returns-3 c =
-    let undid = c .before .before .before .before .before .before .before in
-    let good = undid .before .before .before in
-    let near = good .before .before in
-    let a = near .before .before .before .before .before .before .before .args in
-    takes-done (a .steps) (a .m) (besideBack (a .ram .now) (a .paper .now) (a .journal .now)) (near .if1 .left)
-    (sym (good .before .all-fit .ensures) ∙ not-false _ (good .if2 .left))
-    (undid .undo-all .result) _ _ _ _ (undid .undo-all .ensures .0) refl (c .slot-back .ensures .0)
+same-length-3 : tie.Need-same-length-3
+same-length-3 c = search needs
+
+returns : tie.Need-returns
+returns c =
+    let undid = c .before .before .before .before .before .before .before .before .before in
+    let start = undid .before .before .before .before .before .before .before .before .before .before .before in
+    let a = start .args in
+    let is = undid .undo-all .ensures in
+    takes-done (a .steps) (a .m) (besideBack (a .ram .now) (a .paper .now) (a .journal .now) (a .index .now)) (said start .0) (said start .1)
+    (undid .undo-all .result) _ _ _ _ _ (is .0 .0) (is .1) refl (c .slot-back .ensures .0)
 
 pub take-back-spec : {M : Type 1} → statement M
 take-back-spec =
@@ -77,9 +68,6 @@ take-back-spec =
     (tie.spec
     cast-hand
     cast-next
-    returns
-    all-fit-requires
-    returns-2
     undo-all-requires
     sub-fewer
     cast-fewer
@@ -87,4 +75,5 @@ take-back-spec =
     cast-turned
     same-length
     same-length-2
-    returns-3)
+    same-length-3
+    returns)

@@ -15,7 +15,7 @@ enum-told : tie.Need-enum-told
 enum-told c = search needs
 
 with-image-requires : tie.Need-with-image-requires
-with-image-requires c κs = sym (c .before .before .before .before .before .buffers-test .ensures) ∙ c .before .before .before .enum-told .given .1
+with-image-requires c κs = sym (c .before .before .before .before .before .before .buffers-test .ensures) ∙ c .before .before .before .before .enum-told .given .1
 
 returns : tie.Need-returns
 unfolding backLeaves
@@ -30,11 +30,14 @@ same-length-2 c = search needs
 same-length-3 : tie.Need-same-length-3
 same-length-3 c = search needs
 
+same-length-4 : tie.Need-same-length-4
+same-length-4 c = search needs
+
 returns-2 : tie.Need-returns-2
 unfolding backLeaves
 returns-2 c =
-    let rest = c .before .before .before .before .before .before in
-    rw (sym (rest .before .before .before .before .before .before .buffers-test .ensures) ∙ rest .before .before .before .before .enum-told .given .1) (rest .with-image .ensures)
+    let rest = c .before .before .before .before .before .before .before .before in
+    rw (sym (rest .before .before .before .before .before .before .before .buffers-test .ensures) ∙ rest .before .before .before .before .before .enum-told .given .1) (rest .with-image .ensures)
 
 pub take-back-spec : {M : Type 1} → statement M
 take-back-spec =
@@ -48,4 +51,5 @@ take-back-spec =
     same-length
     same-length-2
     same-length-3
+    same-length-4
     returns-2)

@@ -15,7 +15,9 @@ enum-told : tie.Need-enum-told
 enum-told c = search needs
 
 with-image-requires : tie.Need-with-image-requires
-with-image-requires c κs = sym (c .before .before .before .before .before .before .lent-test .ensures) ∙ c .before .before .before .before .enum-told .given .1
+with-image-requires c κs =
+    let told = c .before .before .before .before .before in
+    sym (told .before .before .lent-test .ensures) ∙ told .enum-told .given .1
 
 returns : tie.Need-returns
 unfolding runLeaves
@@ -33,9 +35,15 @@ same-length-3 c = search needs
 same-length-4 : tie.Need-same-length-4
 same-length-4 c = search needs
 
+same-length-5 : tie.Need-same-length-5
+same-length-5 c = search needs
+
 returns-2 : tie.Need-returns-2
 unfolding runLeaves
-returns-2 c = rw (sym (c .before .before .before .before .before .before .before .before .before .before .before .before .before .before .before .lent-test .ensures) ∙ c .before .before .before .before .before .before .before .before .before .before .before .before .before .enum-told .given .1) (c .before .before .before .before .before .before .before .before .with-image .ensures)
+returns-2 c =
+    let left = c .before .before .before .before .before .before .before .before .before .before in
+    let told = left .before .before .before .before .before .before in
+    rw (sym (told .before .before .lent-test .ensures) ∙ told .enum-told .given .1) (left .with-image .ensures)
 
 pub run-spec : {M : Type 1} → statement M
 run-spec =
@@ -50,4 +58,5 @@ run-spec =
     same-length-2
     same-length-3
     same-length-4
+    same-length-5
     returns-2)

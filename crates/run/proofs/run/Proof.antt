@@ -18,9 +18,10 @@ opened-requires c κs = search needs
 
 spin-requires : tie.Need-spin-requires
 spin-requires c κs =
-    let start = c .before .before .before .before .before .before .before .before .before .before .before in
+    let opened = c .before .before .before .before in
+    let start = opened .before .before .before .before .before .before .before .before .before in
     let a = start .args in
-    opened-ready (a .machine) (eight start) (sixteen start) (besideOf (a .execution .now) (a .bootstrap .now) (a .ram .now) (a .paper .now) (a .journal .now)) (c .before .before .before .opened .ensures) (start .pre)
+    opened-ready (a .machine) (eight start) (sixteen start) (besideOf (a .execution .now) (a .bootstrap .now) (a .ram .now) (a .paper .now) (a .journal .now) (a .index .now)) (opened .opened .ensures) (start .pre)
 
 closed-requires : tie.Need-closed-requires
 closed-requires c κs = search needs
@@ -34,14 +35,17 @@ same-length-2 c = search needs
 same-length-3 : tie.Need-same-length-3
 same-length-3 c = search needs
 
+same-length-4 : tie.Need-same-length-4
+same-length-4 c = search needs
+
 returns : tie.Need-returns
 returns c =
-    let spun = c .before .before .before .before .before .before .before .before in
-    let opened = spun .before .before .before .before in
-    let start = opened .before .before .before .before .before .before .before .before in
+    let spun = c .before .before .before .before .before .before .before .before .before .before in
+    let opened = spun .before .before .before .before .before in
+    let start = opened .before .before .before .before .before .before .before .before .before in
     let a = start .args in
-    spun-is (a .machine) (eight start) (sixteen start) (besideOf (a .execution .now) (a .bootstrap .now) (a .ram .now) (a .paper .now) (a .journal .now))
-    (let l = spun .spin .last in besideOf (a .execution .now) (a .bootstrap .now) (l .1 .1 .1 .1 .0) (l .1 .1 .1 .1 .1 .0) (l .1 .1 .1 .1 .1 .1 .0)) (a .budget) (a .stop)
+    spun-is (a .machine) (eight start) (sixteen start) (besideOf (a .execution .now) (a .bootstrap .now) (a .ram .now) (a .paper .now) (a .journal .now) (a .index .now))
+    (let l = spun .spin .last in besideOf (a .execution .now) (a .bootstrap .now) (l .1 .1 .1 .1 .0) (l .1 .1 .1 .1 .1 .0) (l .1 .1 .1 .1 .1 .1 .0) (l .1 .1 .1 .1 .1 .1 .1 .0)) (a .budget) (a .stop)
     (spun .spin .result) (opened .opened .ensures) (spun .spin .ensures) (c .closed .ensures)
 
 pub run-spec : {M : Type 1} → statement M
@@ -54,4 +58,5 @@ run-spec =
     same-length
     same-length-2
     same-length-3
+    same-length-4
     returns)

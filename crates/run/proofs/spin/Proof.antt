@@ -41,7 +41,7 @@ use Rattle.run.proofs.spin.Tie as tie
 
 -- everything at the loop's head, the lengths that stay, and how far the run is
 abbrev Inv-loop : tie.InvT-loop
-Inv-loop settings execution bootstrap ram₀ paper₀ journal₀ budget stop core₀ held₀ regs₀ rows₀ words₀ mark₀ steps₀ limit₀ ram paper journal core held regs rows words mark steps limit =
+Inv-loop settings execution bootstrap ram₀ paper₀ journal₀ index₀ budget stop core₀ held₀ regs₀ rows₀ words₀ mark₀ steps₀ limit₀ ram paper journal index core held regs rows words mark steps limit =
     NextLook rows steps budget limit
     × (length ram ≡ length ram₀)
     × (length paper ≡ length paper₀)
@@ -51,15 +51,16 @@ Inv-loop settings execution bootstrap ram₀ paper₀ journal₀ budget stop cor
     × (length rows ≡ 16)
     × (length core ≡ 14)
     × HoldsZero regs
+    × (length index ≡ length index₀)
     × Reached (forward (romsOf execution bootstrap)) (slotsOf journal₀) budget stop
     (configOf (romsOf execution bootstrap) settings (record { core = core₀; held = held₀; regs = regs₀; rows = rows₀; words = words₀; mark = mark₀ })
-    (besideOf execution bootstrap ram₀ paper₀ journal₀))
+    (besideOf execution bootstrap ram₀ paper₀ journal₀ index₀))
     steps
     (configOf (romsOf execution bootstrap) settings (record { core = core; held = held; regs = regs; rows = rows; words = words; mark = mark })
-    (besideOf execution bootstrap ram paper journal))
+    (besideOf execution bootstrap ram paper journal index))
 
 abbrev μ-loop : tie.MeasureT-loop
-μ-loop settings execution bootstrap ram₀ paper₀ journal₀ budget stop core₀ held₀ regs₀ rows₀ words₀ mark₀ steps₀ limit₀ ram paper journal core held regs rows words mark steps limit = budget - steps
+μ-loop settings execution bootstrap ram₀ paper₀ journal₀ index₀ budget stop core₀ held₀ regs₀ rows₀ words₀ mark₀ steps₀ limit₀ ram paper journal index core held regs rows words mark steps limit = budget - steps
 
 abbrev Head : Type 0
 Head = tie.At-loop Inv-loop μ-loop
@@ -68,10 +69,10 @@ abbrev After : Type 0
 After = tie.After-mark2 Inv-loop μ-loop
 
 abbrev finished : After → tie.After-finish Inv-loop μ-loop
-finished c = c .before .before .before .before .before .before
+finished c = c .before .before .before .before .before .before .before .before
 
 abbrev asked : After → tie.After-old-row Inv-loop μ-loop
-asked c = finished c .before .before .before .before .before .before
+asked c = finished c .before .before .before .before .before .before .before
 
 abbrev decided : After → tie.After-decide Inv-loop μ-loop
 decided c = asked c .before
@@ -80,13 +81,13 @@ abbrev read : After → tie.After-core-in Inv-loop μ-loop
 read c = decided c .before .before .before
 
 abbrev started : After → tie.After-start Inv-loop μ-loop
-started c = read c .before .before .before .before .before .before
+started c = read c .before .before .before .before .before .before .before .before
 
 abbrev Looked : Type 0
 Looked = tie.After-looked Inv-loop μ-loop
 
 abbrev single : After → tie.Else1 Inv-loop μ-loop
-single c = started c .before .before .before .before .before
+single c = started c .before .before .before .before .before .before
 
 abbrev looked : After → Looked
 looked c = single c .before
@@ -98,20 +99,20 @@ abbrev head : After → Head
 head c = headOf (looked c)
 
 abbrev entry : Head → tie.Start Inv-loop μ-loop
-entry h = h .before .before .before .before .before .before .before .before .before .before .before .before .before
+entry h = h .before .before .before .before .before .before .before .before .before .before .before .before .before .before
 
 -- the parts and buffers of a turn's start
 abbrev partsAt : Head → Parts
 partsAt h = let l = h .loop in record { core = l .core; held = l .held; regs = l .regs; rows = l .rows; words = l .words; mark = l .mark }
 
 abbrev besideAt : Head → Beside
-besideAt h = let a = entry h .args in besideOf (a .execution .now) (a .bootstrap .now) (h .loop .ram) (h .loop .paper) (h .loop .journal)
+besideAt h = let a = entry h .args in besideOf (a .execution .now) (a .bootstrap .now) (h .loop .ram) (h .loop .paper) (h .loop .journal) (h .loop .index)
 
 whole-at : (h : Head) → Whole (lentFrom (besideAt h))
 whole-at h = turns.still-whole (h .loop .inv .1) (entry h .pre .whole)
 
-within-at : (d : tie.After-decide Inv-loop μ-loop) → Within (length (headOf (d .before .before .before .before .before .before .before .before .before .before .before .before .before .before .before) .loop .ram)) 16 (d .decide .result .effect)
-within-at d = let h = headOf (d .before .before .before .before .before .before .before .before .before .before .before .before .before .before .before) in decided-fits (whole-at h) _ _ (h .loop .rows) (h .loop .inv .6) (d .decide .ensures)
+within-at : (d : tie.After-decide Inv-loop μ-loop) → Within (length (headOf (d .before .before .before .before .before .before .before .before .before .before .before .before .before .before .before .before .before .before) .loop .ram)) 16 (d .decide .result .effect)
+within-at d = let h = headOf (d .before .before .before .before .before .before .before .before .before .before .before .before .before .before .before .before .before .before) in decided-fits (whole-at h) _ _ (h .loop .rows) (h .loop .inv .6) (d .decide .ensures)
 
 -- what the look asked, and what it says of a step that is taken
 abbrev asks : Head → Bool
@@ -144,7 +145,7 @@ module _ (c : After) where
   roms = romsIn (besideAt h)
 
   abbrev from : Config (forward roms)
-  from = configOf roms (a .args .settings) (a .args .parts) (besideOf (a .args .execution .now) (a .args .bootstrap .now) (a .args .ram .now) (a .args .paper .now) (a .args .journal .now))
+  from = configOf roms (a .args .settings) (a .args .parts) (besideOf (a .args .execution .now) (a .args .bootstrap .now) (a .args .ram .now) (a .args .paper .now) (a .args .journal .now) (a .args .index .now))
 
   abbrev partsThen : Parts
   partsThen = let f = finished c .finish in partsLeft (partsAt h) d (f .result) (f .last .0) (f .last .1 .1 .1 .0) (f .last .1 .1 .1 .1 .1 .1 .0)
@@ -153,11 +154,16 @@ module _ (c : After) where
   besideThen =
       let f = finished c .finish in
       besideOf (a .args .execution .now) (a .args .bootstrap .now) (f .last .1 .1 .1 .1 .1 .1 .1 .1 .1 .0) (started c .start .last .1 .1 .1 .1 .0) (f .last .1 .1 .1 .1 .1 .1 .1 .1 .1 .1 .0)
+      (f .last .1 .1 .1 .1 .1 .1 .1 .1 .1 .1 .1 .1 .0)
 
   turn-is : TurnIs (a .args .settings) (partsAt h) (besideAt h) (d .effect) partsThen besideThen
   turn-is =
-      turned-is (a .args .settings) (partsAt h) (besideAt h) (whole-at h) (h .loop .inv .5) (h .loop .inv .6) (started c .start .ensures .0) (started c .start .ensures .1)
-      (read c .core-in .ensures) (decided c .decide .ensures) (asked c .old-row .ensures) (finished c .finish .ensures .0) (finished c .finish .ensures .1)
+      turned-is (a .args .settings) (partsAt h) (besideAt h) (whole-at h) (h .loop .inv .5) (h .loop .inv .6) (started c .start .ensures .0) (started c .start .ensures .1 .0)
+      (started c .start .kept .1 .1 .1 .1 .1 .0) (started c .start .ensures .1 .1 .0) (started c .start .ensures .1 .1 .1)
+      (read c .core-in .ensures) (decided c .decide .ensures) (asked c .old-row .ensures) (finished c .finish .ensures .0) (finished c .finish .ensures .1 .0) (finished c .finish .ensures .1 .1)
+
+  index-long : length (besideThen .index) ≡ length (h .loop .index)
+  index-long = finished c .finish .kept .1 .1 .1 .1 .1 .1 .1 .1 .1 .1 .1 .1 .0 ∙ started c .start .kept .1 .1 .1 .1 .1 .1 .1 .0
 
   journal-long : length (besideThen .journal) ≡ length (h .loop .journal)
   journal-long = finished c .finish .kept .1 .1 .1 .1 .1 .1 .1 .1 .1 .1 .0 ∙ started c .start .kept .1 .1 .1 .1 .1 .0
@@ -184,6 +190,7 @@ module _ (c : After) where
         × (length rows ≡ 16)
         × (length (partsThen .core) ≡ 14)
         × HoldsZero (partsThen .regs)
+        × (length (besideThen .index) ≡ length (a .args .index .now))
         × Reached (forward roms) (slotsOf (a .args .journal .now)) (a .args .budget) (a .args .stop) from (h .loop .steps + 1) there
 
     again : (a .args .stop && enters e) ≡ false → Onward
@@ -198,14 +205,15 @@ module _ (c : After) where
           long,
           turn-is .fourteen,
           applied-zero _ 16 (finished c .finish .ensures .0) (within-at (decided c)) (i .8),
-          turns.goes _ _ (a .args .stop) turn-is same told rows left-rows from (h .loop .steps) (left-of c) (i .9) (once-at c) q,
+          index-long ∙ i .9,
+          turns.goes _ _ (a .args .stop) turn-is same told rows left-rows from (h .loop .steps) (left-of c) (i .10) (once-at c) q,
         )
 
     onward : enters e ≡ false → Onward
     onward quiet = again (rw quiet (and-false (a .args .stop)))
 
     ends : (a .args .stop && enters e) ≡ true → ring.run (forward roms) (slotsOf (a .args .journal .now)) (a .args .budget) (a .args .stop) from ≡ ended there (h .loop .steps + 1) excepted
-    ends q = turns.ends _ _ (a .args .stop) turn-is same told rows left-rows from (h .loop .steps) (left-of c) (h .loop .inv .9) (once-at c) q
+    ends q = turns.ends _ _ (a .args .stop) turn-is same told rows left-rows from (h .loop .steps) (left-of c) (h .loop .inv .10) (once-at c) q
 
 -- an effect that sets no row
 stays : (c : After) {e : Effect} (told : decided c .decide .result .effect ≡ e) (same : rowsAfter e (head c .loop .rows) ≡ head c .loop .rows) → enters e ≡ false →
@@ -217,8 +225,8 @@ next-look-requires c κs = search needs
 
 loop-holds : tie.Need-loop-holds Inv-loop μ-loop
 loop-holds c =
-    let start = c .before .before .before .before .before .before .before .before .before .before .before .before in
-    (next-look _ 0 _ _ (omega arith) (c .next-look .ensures), refl, refl, refl, start .pre .told, start .pre .ready, start .pre .table, start .pre .fourteen, start .pre .zero, reached-start _ _ _ _ _)
+    let start = c .before .before .before .before .before .before .before .before .before .before .before .before .before in
+    (next-look _ 0 _ _ (omega arith) (c .next-look .ensures), refl, refl, refl, start .pre .told, start .pre .ready, start .pre .table, start .pre .fourteen, start .pre .zero, refl, reached-start _ _ _ _ _)
 
 looked-requires : tie.Need-looked-requires Inv-loop μ-loop
 looked-requires c κs =
@@ -228,20 +236,22 @@ looked-requires c κs =
 
 start-requires : tie.Need-start-requires Inv-loop μ-loop
 start-requires c κs =
-    let h = headOf (c .before .before .before .before .before) in
-    record {
-      fourteen = h .loop .inv .7;
-      told = h .loop .inv .4;
-      short = rw (h .loop .inv .2) (entry h .pre .short);
-      ready = h .loop .inv .5;
-    }
+    let h = headOf (c .before .before .before .before .before .before) in (
+      record {
+        fourteen = h .loop .inv .7;
+        told = h .loop .inv .4;
+        short = rw (h .loop .inv .2) (entry h .pre .short);
+        ready = h .loop .inv .5;
+      },
+      omega (arith, entry h .pre .framed .sixteen-each, h .loop .inv .9),
+    )
 
 core-in-requires : tie.Need-core-in-requires Inv-loop μ-loop
 core-in-requires c κs = search needs
 
 decide-requires : tie.Need-decide-requires Inv-loop μ-loop
 decide-requires c κs =
-    let h = headOf (c .before .before .before .before .before .before .before .before .before .before .before .before .before .before) in
+    let h = headOf (c .before .before .before .before .before .before .before .before .before .before .before .before .before .before .before .before .before) in
     (whole-at h, h .loop .inv .8)
 
 old-row-requires : tie.Need-old-row-requires Inv-loop μ-loop
@@ -249,10 +259,12 @@ old-row-requires c κs = search needs
 
 finish-requires : tie.Need-finish-requires Inv-loop μ-loop
 finish-requires c κs =
-    let decided = c .before .before .before .before .before .before in
-    let started = decided .before .before .before .before .before .before .before .before .before in
-    let h = headOf (started .before .before .before .before .before .before) in
-    (still-ready _ (h .loop .inv .5) (length-printers (h .loop .words)) (started .start .ensures .1), (within-at decided, (started .start .ensures .0 .told, whole-at h)))
+    let decided = c .before .before .before .before .before .before .before in
+    let started = decided .before .before .before .before .before .before .before .before .before .before .before in
+    let h = headOf (started .before .before .before .before .before .before .before) in
+    let framed = entry h .pre .framed in
+    let long = started .start .kept .1 .1 .1 .1 .1 .1 .1 .0 ∙ h .loop .inv .9 in
+    (still-ready _ (h .loop .inv .5) (length-printers (h .loop .words)) (started .start .ensures .1 .0), (record { whole-frames = rw (h .loop .inv .1) (framed .whole-frames); sixteen-each = rw (long, h .loop .inv .1) (framed .sixteen-each) }, (within-at decided, (started .start .ensures .0 .told, whole-at h))))
 
 add-steps : tie.Need-add-steps Inv-loop μ-loop
 add-steps c = omega (arith, left-of c, entry (head c) .fits .budget)
@@ -377,22 +389,28 @@ same-length-2 c = headOf (c .before) .loop .inv .2
 same-length-3 : tie.Need-same-length-3 Inv-loop μ-loop
 same-length-3 c = headOf (c .before) .loop .inv .3
 
+same-length-4 : tie.Need-same-length-4 Inv-loop μ-loop
+same-length-4 c = headOf (c .before) .loop .inv .9
+
 returns : tie.Need-returns Inv-loop μ-loop
 returns c =
     let asked = c .before in
     let h = headOf asked in
     sym
     (look-ends (h .loop .rows) (h .loop .steps) (h .loop .limit) (entry h .args .budget) (asks h) (asked .looked .result) (asked .looked .ensures) (h .loop .inv .0) _ _ _ _ _
-    (h .loop .inv .9) (sym (halts-ahead (partsAt h) (entry h .args .settings) (besideAt h))) (c .if1 .taken))
-
-same-length-4 : tie.Need-same-length-4 Inv-loop μ-loop
-same-length-4 c = let m = c .before .before .before in finished m .finish .kept .1 .1 .1 .1 .1 .1 .1 .1 .1 .0 ∙ head m .loop .inv .1
+    (h .loop .inv .10) (sym (halts-ahead (partsAt h) (entry h .args .settings) (besideAt h))) (c .if1 .taken))
 
 same-length-5 : tie.Need-same-length-5 Inv-loop μ-loop
-same-length-5 c = let m = c .before .before .before in started m .start .kept .1 .1 .1 .1 .0 ∙ head m .loop .inv .2
+same-length-5 c = let m = c .before .before .before in finished m .finish .kept .1 .1 .1 .1 .1 .1 .1 .1 .1 .0 ∙ head m .loop .inv .1
 
 same-length-6 : tie.Need-same-length-6 Inv-loop μ-loop
-same-length-6 c = let m = c .before .before .before in journal-long m ∙ head m .loop .inv .3
+same-length-6 c = let m = c .before .before .before in started m .start .kept .1 .1 .1 .1 .0 ∙ head m .loop .inv .2
+
+same-length-7 : tie.Need-same-length-7 Inv-loop μ-loop
+same-length-7 c = let m = c .before .before .before in journal-long m ∙ head m .loop .inv .3
+
+same-length-8 : tie.Need-same-length-8 Inv-loop μ-loop
+same-length-8 c = let m = c .before .before .before in index-long m ∙ head m .loop .inv .9
 
 returns-2 : tie.Need-returns-2 Inv-loop μ-loop
 returns-2 c =
@@ -450,8 +468,10 @@ spin-spec =
     same-length
     same-length-2
     same-length-3
-    returns
     same-length-4
+    returns
     same-length-5
     same-length-6
+    same-length-7
+    same-length-8
     returns-2)

@@ -19,12 +19,15 @@ same-length-2 c = search needs
 same-length-3 : tie.Need-same-length-3
 same-length-3 c = search needs
 
+same-length-4 : tie.Need-same-length-4
+same-length-4 c = search needs
+
 returns : tie.Need-returns
 returns c =
-    let took = c .before .before .before .before .before .before .before in
+    let took = c .before .before .before .before .before .before .before .before .before in
     packed-is (took .take-back .ensures) (c .packed .ensures)
 
 pub lavushmir-take-back-spec : {M : Type 1} → statement M
 lavushmir-take-back-spec =
     tie.close
-    (tie.spec take-back-requires packed-requires same-length same-length-2 same-length-3 returns)
+    (tie.spec take-back-requires packed-requires same-length same-length-2 same-length-3 same-length-4 returns)

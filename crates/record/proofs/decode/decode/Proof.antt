@@ -16,20 +16,8 @@ word-requires-2 c κs = search needs
 paper-requires : tie.Need-paper-requires
 paper-requires c κs = search needs
 
-word-requires-3 : tie.Need-word-requires-3
-word-requires-3 c κs = search needs
-
-word-requires-4 : tie.Need-word-requires-4
-word-requires-4 c κs = search needs
-
-word-requires-5 : tie.Need-word-requires-5
-word-requires-5 c κs = search needs
-
-word-requires-6 : tie.Need-word-requires-6
-word-requires-6 c κs = search needs
-
-saved-by-requires : tie.Need-saved-by-requires
-saved-by-requires c κs = search needs
+saved-requires : tie.Need-saved-requires
+saved-requires c κs = search needs
 
 printers-requires : tie.Need-printers-requires
 printers-requires c κs = search needs
@@ -46,10 +34,6 @@ decode-spec =
     word-requires
     word-requires-2
     paper-requires
-    word-requires-3
-    word-requires-4
-    word-requires-5
-    word-requires-6
-    saved-by-requires
+    saved-requires
     printers-requires
     returns)

@@ -21,6 +21,9 @@ enum-known-effect-3 c = search needs
 enum-known-effect-4 : tie.Need-enum-known-effect-4
 enum-known-effect-4 c = search needs
 
+cast-short : tie.Need-cast-short
+cast-short c = search needs
+
 cast-load-word : tie.Need-cast-load-word
 cast-load-word c = search needs
 
@@ -85,6 +88,7 @@ saved-spec =
     register-at-requires-2
     enum-known-effect-3
     enum-known-effect-4
+    cast-short
     cast-load-word
     load-word-requires
     enum-told
