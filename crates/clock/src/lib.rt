@@ -1,6 +1,8 @@
 // The clock group: the 64-bit bus clock as two words, and the interval timer.
 ghost use mathlib.Core.Path.{_≡_};
-ghost use Rattle.clock.specs.Tick.{timeOf, tickedOf};
+ghost use mathlib.Core.Bool.{cond};
+ghost use lib.Dec.{eqb};
+ghost use Rattle.clock.specs.Tick.{timeOf, up, tickedOf};
 
 pub struct Clock {
     pub high: u32,
@@ -21,15 +23,26 @@ pub fn time(c: Clock) -> u64
     (c.high as u64) * 4294967296 + c.low as u64
 }
 
-// The work, by value: covered, so that all that is to be shown is arithmetic.
+// The high word one step later, where `low` is the low word then: it moves on where that one wrapped.
+fn carried(high: u32, low: u32) -> u32
+    ensures { λ r. ⌜ r ≡ cond (eqb low 0) (up 32 high) high ⌝ }
+{
+    if low == 0 {
+        return std::num::wrapping_add_u32(high, 1);
+    }
+    high
+}
+
+// The work, by value: covered, so that all that is to be shown is arithmetic. Word by word: the count is
+// never made one number and taken apart again.
 pub fn ticked(c: Clock) -> Beat
     ensures { λ r. ⌜ r ≡ tickedOf c ⌝ }
 {
-    let next = std::num::wrapping_add_u64(time(c), 1);
+    let low = std::num::wrapping_add_u32(c.low, 1);
     Beat {
         clock: Clock {
-            high: (next / 4294967296) as u32,
-            low: (next % 4294967296) as u32,
+            high: carried(c.high, low),
+            low: low,
             timer: std::num::wrapping_sub_u32(c.timer, 1),
         },
         rang: c.timer == 0,
