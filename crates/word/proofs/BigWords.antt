@@ -28,7 +28,7 @@ four bs at h =
     cc
 
 -- the bytes of the word of four bytes
-bytes-of-word : (a b c d : ℕ) → a < 256 → b < 256 → c < 256 → d < 256 → wordBytes (wordOf a b c d) ≡ a ∷ b ∷ c ∷ d ∷ []
+pub bytes-of-word : (a b c d : ℕ) → a < 256 → b < 256 → c < 256 → d < 256 → wordBytes (wordOf a b c d) ≡ a ∷ b ∷ c ∷ d ∷ []
 bytes-of-word a b c d ha hb hc hd =
     let ea : wordOf a b c d / 0x1000000 ≡ a = omega arith in
     let eb : wordOf a b c d / 0x10000 % 256 ≡ b = omega arith in

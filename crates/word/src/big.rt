@@ -1,6 +1,6 @@
 // Words of 32 bits as bytes, big-endian: one word at a place, and a list of them.
 ghost use mathlib.Core.Path.{_≡_};
-ghost use Prim.Native.Nat.{ℕ, _+_, _*_, _≤_};
+ghost use Prim.Native.Nat.{ℕ, _+_, _*_, _/_, _%_, _≤_};
 ghost use lib.ListN.{length};
 ghost use lib.Seq.{sets};
 ghost use Rattle.word.specs.Lists.{tabulate, flat};
@@ -19,14 +19,26 @@ pub fn word_at(bytes: &[u8], at: usize) -> u32
     joined(bytes[at], bytes[at + 1], bytes[at + 2], bytes[at + 3])
 }
 
+// The word of the same four bytes in the other order.
+fn swapped(word: u32) -> u32
+    ensures { λ r. ⌜ r ≡ wordOf (word % 256) (word / 256 % 256) (word / 0x10000 % 256) (word / 0x1000000) ⌝ }
+{
+    (word % 256) * 0x1000000
+        + (word / 256 % 256) * 0x10000
+        + (word / 0x10000 % 256) * 256
+        + word / 0x1000000
+}
+
+// The bytes of the word swapped go down least first: so the compiler makes one store of the four.
 pub fn put_word(bytes: &mut [u8], at: usize, word: u32)
     requires { ⌜ at + 4 ≤ length (now bytes) ⌝ }
     ensures { λ _. ⌜ now (bytes .exit) ≡ sets (now (bytes .entry)) at (wordBytes word) ⌝ }
 {
-    bytes[at] = (word / 0x1000000) as u8;
-    bytes[at + 1] = (word / 0x10000 % 256) as u8;
-    bytes[at + 2] = (word / 256 % 256) as u8;
-    bytes[at + 3] = (word % 256) as u8;
+    let s = swapped(word);
+    bytes[at] = (s % 256) as u8;
+    bytes[at + 1] = (s / 256 % 256) as u8;
+    bytes[at + 2] = (s / 0x10000 % 256) as u8;
+    bytes[at + 3] = (s / 0x1000000) as u8;
 }
 
 // Fills `words` from the start of `bytes`.
