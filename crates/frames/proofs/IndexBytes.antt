@@ -13,7 +13,7 @@ use lib.Dec.{eqb, ltb, lit<}
 use borrow.Author.Tests.{ltb-true}
 use Rattle.word.specs.Lists.{tabulate, flat}
 use Rattle.word.specs.Big.{wordAt}
-use Rattle.word.proofs.Lists.{length-tabulate, getD-tabulate, tabulate-ext, flat-at, flat-append}
+use Rattle.word.proofs.Lists.{sets-right, length-tabulate, getD-tabulate, tabulate-ext, flat-at, flat-append}
 use Rattle.word.proofs.BigWords.{read-written}
 use Rattle.ring.specs.Slots.{nextSlot, slotBack}
 use Rattle.ring.proofs.Slots.{next-below, back-below}
@@ -34,16 +34,6 @@ Fits Nothing = Unit
 Fits (At c) = c < 2 ^ 64
 
 -- ---- lists
-
-sets-cons : (x : ℕ) (l vs : List ℕ) (at : ℕ) → sets (x ∷ l) (suc at) vs ≡ x ∷ sets l at vs
-sets-cons x l [] at = refl
-sets-cons x l (v ∷ vs) at = sets-cons x (set l at v) vs (suc at)
-
-sets-right : (p l vs : List ℕ) (at : ℕ) → sets (p ++ l) (length p + at) vs ≡ p ++ sets l at vs
-sets-right [] l vs at = rw (zero-add at)
-sets-right (x ∷ p) l vs at =
-    let e : suc (length p) + at ≡ suc (length p + at) = omega arith in
-    rw e (sets-cons x (p ++ l) vs (length p + at) ∙ ap (λ (m : List ℕ). x ∷ m) (sets-right p l vs at))
 
 -- one element of a flat list
 module _ {A : Type 0} (k : ℕ) (g : A → List ℕ) (size : (x : A) → length (g x) ≡ k) where

@@ -9,24 +9,28 @@ use lib.ListN.{length, take, drop, length-append}
 use lib.Seq.{length-take-le, sets, length-sets}
 use Rattle.word.specs.Lists.{flat}
 use Rattle.word.specs.Little.{toBytes}
-use Rattle.ring.specs.Slots.{Ring, nextSlot, put, written}
-use Rattle.ring.proofs.Slots.{by-leb, length-put, written-none, written-as}
+use Rattle.word.proofs.Lists.{sets-right, sets-left}
+use Rattle.ring.specs.Slots.{Ring, nextSlot, slot, put, written}
+use Rattle.ring.proofs.Slots.{by-leb, length-put, length-slot, slot-same, written-none, written-as}
 use Rattle.state.specs.declared.machine.Journal.{Journal}
 use Rattle.record.specs.declared.Record.{Record}
 use Rattle.record.specs.declared.Saved.{Saved}
-use Rattle.record.specs.Layout.{savedWords, recordBytes}
-use Rattle.record.proofs.Stored.{length-bytes}
-use Rattle.record.proofs.Later.{sets-right, sets-left, length-saved-bytes, saved-later}
+use Rattle.record.specs.Layout.{savedWords, recordBytes, recordOf, begunIn}
+use Rattle.record.proofs.Later.{length-saved-bytes, length-begun, saved-begun, saved-later}
 use Rattle.journal.specs.Journal.{slotsOf, ringOf, Ready, begunOf, endedOf, withSaved}
+
+-- the slot that is next
+abbrev next-of : Journal → List ℕ → List ℕ
+next-of mark journal = slot 256 journal (mark .«next_slot»)
 
 -- ---- with no slots, and with some
 
 module _ (mark : Journal) (journal : List ℕ) where
   pub begun-none : (r : Record) → slotsOf journal ≡ 0 → begunOf mark r journal ≡ journal
-  begun-none r e = ap (λ (b : Bool). cond b journal (put journal (256 * mark .«next_slot») (recordBytes r))) (eq-eqb (slotsOf journal) 0 e)
+  begun-none r e = ap (λ (b : Bool). cond b journal (put journal (256 * mark .«next_slot») (begunIn r (next-of mark journal)))) (eq-eqb (slotsOf journal) 0 e)
 
-  pub begun-some : (r : Record) → 0 < slotsOf journal → begunOf mark r journal ≡ put journal (256 * mark .«next_slot») (recordBytes r)
-  begun-some r h = ap (λ (b : Bool). cond b journal (put journal (256 * mark .«next_slot») (recordBytes r))) (ne-eqb (slotsOf journal) 0 (λ e. omega arith))
+  pub begun-some : (r : Record) → 0 < slotsOf journal → begunOf mark r journal ≡ put journal (256 * mark .«next_slot») (begunIn r (next-of mark journal))
+  begun-some r h = ap (λ (b : Bool). cond b journal (put journal (256 * mark .«next_slot») (begunIn r (next-of mark journal)))) (ne-eqb (slotsOf journal) 0 (λ e. omega arith))
 
   -- some slots: the three parts as code has them
   abbrev parts : Saved → Ring
@@ -62,14 +66,31 @@ stores-within bytes at k old vs new room inside e =
 -- ---- the two parts
 
 module _ (mark : Journal) (r : Record) (journal : List ℕ) (eight : length (r .printers) ≡ 8) (ready : Ready journal mark) where
-  room : 0 < slotsOf journal → 256 * mark .«next_slot» + length (recordBytes r) ≤ length journal
-  room some = omega (arith, length-bytes r eight, ready .sound .place)
+  module _ (some : 0 < slotsOf journal) where
+    within : mark .«next_slot» < slotsOf journal
+    within = omega (arith, ready .sound .place)
+
+    length-next : length (next-of mark journal) ≡ 256
+    length-next = length-slot 256 (slotsOf journal) journal (ready .sound .room) (mark .«next_slot») within
+
+    long : length (begunIn r (next-of mark journal)) ≡ 256
+    long = length-begun r (next-of mark journal) length-next eight
+
+    room : 256 * mark .«next_slot» + length (begunIn r (next-of mark journal)) ≤ length journal
+    room = omega (arith, long, ready .sound .place)
+
+    -- what is begun leaves what the next slot saved
+    pub begun-saved : recordOf (next-of mark (begunOf mark r journal)) .saved ≡ recordOf (next-of mark journal) .saved
+    begun-saved =
+        ap (λ (l : List ℕ). recordOf (next-of mark l) .saved) (begun-some mark journal r some)
+        ∙ ap (λ (l : List ℕ). recordOf l .saved) (slot-same 256 (slotsOf journal) journal (ready .sound .room) (mark .«next_slot») (begunIn r (next-of mark journal)) within long)
+        ∙ saved-begun r (next-of mark journal) length-next eight
 
   pub begun-length : length (begunOf mark r journal) ≡ length journal
   begun-length =
       by-leb (slotsOf journal) 0
       (λ none. ap length (begun-none mark journal r (omega arith)))
-      (λ some. ap length (begun-some mark journal r some) ∙ length-put journal (256 * mark .«next_slot») (recordBytes r) (room some))
+      (λ some. ap length (begun-some mark journal r some) ∙ length-put journal (256 * mark .«next_slot») (begunIn r (next-of mark journal)) (room some))
 
   slots-same : slotsOf (begunOf mark r journal) ≡ slotsOf journal
   slots-same = rw begun-length
@@ -92,8 +113,8 @@ module _ (mark : Journal) (r : Record) (journal : List ℕ) (eight : length (r .
   bytes-whole s some =
       let new = flat (toBytes 4) (savedWords s) in
       ap (λ (l : List ℕ). sets l (256 * mark .«next_slot» + 76) new) (begun-some mark journal r some)
-      ∙ stores-within journal (256 * mark .«next_slot») 76 (recordBytes r) new (recordBytes (withSaved s r)) (room some)
-      (omega (arith, length-bytes r eight, length-saved-bytes s)) (saved-later r s)
+      ∙ stores-within journal (256 * mark .«next_slot») 76 (begunIn r (next-of mark journal)) new (recordBytes (withSaved s r)) (room some)
+      (omega (arith, long some, length-saved-bytes s)) (saved-later r (next-of mark journal) (length-next some) s)
 
 -- THE law of the two parts
 pub begun-ended : (mark : Journal) (r : Record) (s : Saved) (journal : List ℕ) → length (r .printers) ≡ 8 → Ready journal mark →

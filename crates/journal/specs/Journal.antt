@@ -8,11 +8,11 @@ use lib.Seq.{sets}
 use Rattle.word.specs.Lists.{flat}
 use Rattle.word.specs.Little.{toBytes}
 use Rattle.word.specs.Sizes.{recordSize}
-use Rattle.ring.specs.Slots.{Ring, Sound, nextSlot, put}
+use Rattle.ring.specs.Slots.{Ring, Sound, nextSlot, slot, put}
 use Rattle.record.specs.declared.Record.{Record}
 use Rattle.record.specs.declared.Saved.{Saved}
 use Rattle.record.specs.declared.Saved.the-variants.{Nothing}
-use Rattle.record.specs.Layout.{savedWords, savedBase, recordBytes}
+use Rattle.record.specs.Layout.{savedWords, savedBase, begunIn}
 use Rattle.state.specs.declared.machine.Journal.{Journal}
 use Rattle.printer.specs.declared.saved.SavedPaper.{SavedPaper}
 use Rattle.held.specs.Board.{printersIn}
@@ -46,10 +46,10 @@ heldRecord core timer pending paper words =
 
 -- A step's record is laid down in two parts, so that the old values need not be kept while the step is decided.
 
--- Before the step: the whole record at the next slot, its saved words only holding their place. Neither word moves, since the record does not count before
--- it is ended.
+-- Before the step: the record at the next slot but for its saved words, which stay those of the slot. Neither word moves, since the record does not count
+-- before it is ended.
 abbrev pub begunOf : Journal → Record → List ℕ → List ℕ
-begunOf mark r journal = cond (eqb (slotsOf journal) 0) journal (put journal (recordSize * mark .«next_slot») (recordBytes r))
+begunOf mark r journal = cond (eqb (slotsOf journal) 0) journal (put journal (recordSize * mark .«next_slot») (begunIn r (slot recordSize journal (mark .«next_slot»))))
 
 -- After the decision: the four words of what the step overwrites, which are known only now, at their place in the same slot. Then the record is on hand.
 abbrev pub endedOf : Journal → Saved → List ℕ → Ring

@@ -2,8 +2,8 @@
 ghost use mathlib.Core.Path.{_≡_};
 ghost use Prim.Native.Nat.{_*_, _/_, _<_};
 ghost use lib.ListN.{length};
-ghost use Rattle.ring.specs.Slots.{put};
-ghost use Rattle.record.specs.Layout.{recordBytes};
+ghost use Rattle.ring.specs.Slots.{slot, put};
+ghost use Rattle.record.specs.Layout.{begunIn};
 ghost use Rattle.journal.specs.Journal.{ringOf, Ready, heldRecord, begunOf, endedOf};
 use memory::words::put_words;
 use printer::saved::SavedPaper;
@@ -20,25 +20,29 @@ const SAVED: usize = 76;
 
 fn put_record(
     journal: &mut [u8],
-    slot: usize,
+    next: usize,
     core: &[u32; 14],
     timer: u32,
     pending: u32,
     paper: SavedPaper,
     words: &[u32; 40],
 )
-    requires { ⌜ slot < length (now journal) / 256 ⌝ }
+    requires { ⌜ next < length (now journal) / 256 ⌝ }
     requires { ⌜ length (now core) ≡ 14 ⌝ }
     requires { ⌜ length (now words) ≡ 40 ⌝ }
-    ensures { λ _. ⌜ now (journal .exit) ≡ put (now (journal .entry)) (256 * slot) (recordBytes (heldRecord (now (core .entry)) timer pending paper (now (words .entry)))) ⌝ }
+    ensures { λ _. ⌜
+        now (journal .exit)
+        ≡ put (now (journal .entry)) (256 * next)
+        (begunIn (heldRecord (now (core .entry)) timer pending paper (now (words .entry))) (slot 256 (now (journal .entry)) next))
+        ⌝ }
 {
-    let at = SLOT * slot;
+    let at = SLOT * next;
     let end = at + SLOT;
     encode(core, timer, pending, paper, words, &mut journal[at..end]);
 }
 
-// The first part of a step's record, before the step: all of it, of what the run holds. What it says of the saved words is written over by `ended`. With no
-// slots nothing is written.
+// The first part of a step's record, before the step: all that the run holds. The saved words stay those of the slot till `ended` writes them. With no slots
+// nothing is written.
 pub fn begun(
     journal: &mut [u8],
     mark: Journal,

@@ -28,26 +28,23 @@ module _ (g : Ring) (time : ℕ) (x : List ℕ) where
   abbrev oldest : Saved
   oldest = recordOf (slot 256 (g .bytes) (g .next)) .saved
 
-  -- the index with that record forgotten, of m + 1 slots
+  -- the index with that record forgotten, of n slots
   abbrev without : ℕ → List ℕ
-  without m = replaceAllIn (slotBack whole time m) (λ k. Nothing) (bareIn oldest) x
-
-  pub forgets-none : (n : ℕ) → n ≡ 0 → x ≡ forgottenOf n g time x
-  forgets-none n none = sym (ap (λ (k : ℕ). forgottenOf k g time x) none)
+  without n = replaceAllIn (slotBack whole time n) (λ k. Nothing) (bareIn oldest) x
 
   -- while a slot is free none drops off
   pub forgets-room : (n : ℕ) → g .hand < n → x ≡ forgottenOf n g time x
   forgets-room zero room = refl
-  forgets-room (suc m) room = sym (ap (λ (b : Bool). cond b (without m) x) (le-ltb m (g .hand) (omega arith)))
+  forgets-room (suc m) room = sym (ap (λ (b : Bool). cond b (without (suc m)) x) (le-ltb m (g .hand) (omega arith)))
 
-  pub forgets-full : (n gone : ℕ) (s : Saved) (after : List ℕ) → n ≤ g .hand → (n ≡ 0 → ⊥) → gone ≡ slotBack whole time (n - 1) → s ≡ oldest →
+  pub forgets-full : (n gone : ℕ) (s : Saved) (after : List ℕ) → n ≤ g .hand → 0 < n → gone ≡ slotBack whole time n → s ≡ oldest →
       after ≡ replaceAllIn gone (λ k. Nothing) (bareIn s) x → after ≡ forgottenOf n g time x
-  forgets-full zero gone s after full some e is left = absurd (some refl)
+  forgets-full zero gone s after full some e is left = absurd (omega arith)
   forgets-full (suc m) gone s after full some e is left =
       left
-      ∙ ap (λ (c : ℕ). replaceAllIn c (λ k. Nothing) (bareIn s) x) (e ∙ ap (slotBack whole time) (suc-sub-one m))
-      ∙ ap (λ (o : Saved). replaceAllIn (slotBack whole time m) (λ k. Nothing) (bareIn o) x) is
-      ∙ sym (ap (λ (b : Bool). cond b (without m) x) (lt-ltb m (g .hand) (omega arith)))
+      ∙ ap (λ (c : ℕ). replaceAllIn c (λ k. Nothing) (bareIn s) x) e
+      ∙ ap (λ (o : Saved). replaceAllIn (slotBack whole time (suc m)) (λ k. Nothing) (bareIn o) x) is
+      ∙ sym (ap (λ (b : Bool). cond b (without (suc m)) x) (lt-ltb m (g .hand) (omega arith)))
 
 -- ---- how many are below
 

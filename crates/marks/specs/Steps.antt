@@ -29,11 +29,11 @@ pub record FitsRam (ram index : List ℕ) : Type 0 where
 abbrev pub bareIn : Saved → List Kept
 bareIn s = map bareOf (notedIn s)
 
--- the index once the oldest record, if all slots are on hand, has dropped off
+-- the index for the step at `time`: once the oldest record, if all slots are on hand, has dropped off
 abbrev pub forgottenOf : ℕ → Ring → ℕ → List ℕ → List ℕ
 forgottenOf zero g time x = x
 forgottenOf (suc m) g time x =
-    cond (ltb m (g .hand)) (replaceAllIn (slotBack whole time m) (λ k. Nothing) (bareIn (recordOf (slot recordSize (g .bytes) (g .next)) .saved)) x) x
+    cond (ltb m (g .hand)) (replaceAllIn (slotBack whole time (suc m)) (λ k. Nothing) (bareIn (recordOf (slot recordSize (g .bytes) (g .next)) .saved)) x) x
 
 -- how many are on hand below the record of the next step, of n slots
 abbrev pub belowIn : ℕ → ℕ → ℕ

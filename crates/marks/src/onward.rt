@@ -1,4 +1,4 @@
-// A step: the oldest record drops off, then the word written is marked.
+// A step, once it is decided: the oldest record drops off, then the word written is marked.
 ghost use mathlib.Core.Path.{_≡_};
 ghost use Prim.Native.Nat.{_+_, _*_, _/_, _%_, _≤_, _<_};
 ghost use lib.ListN.{length};
@@ -35,10 +35,12 @@ fn forget_saved(index: &mut [u8], gone: u64, s: Saved)
     }
 }
 
-// Before the step's record is begun: with every slot on hand it goes over the oldest one, whose step is then named no more.
+// Before the step's record is ended: with every slot on hand it goes over the oldest one, whose step is then named no more. What that one saved stands in the slot
+// till then. The clock is that of the step.
 pub fn forget(index: &mut [u8], journal: &[u8], mark: Journal, clock: Clock)
     requires { ⌜ length (now index) % 16 ≡ 0 ⌝ }
     requires { ⌜ Ready (now journal) mark ⌝ }
+    requires { ⌜ 0 < slotsOf (now journal) ⌝ }
     ensures { λ _. ⌜
         now (index .exit)
         ≡ forgottenOf (slotsOf (now (journal .entry))) (ringOf mark (now (journal .entry))) (timeOf clock) (now (index .entry))
@@ -48,12 +50,9 @@ pub fn forget(index: &mut [u8], journal: &[u8], mark: Journal, clock: Clock)
     if (mark.on_hand as usize) < slots {
         return;
     }
-    if slots == 0 {
-        return;
-    }
     let at = SLOT * (mark.next_slot as usize);
     let end = at + SLOT;
-    let gone = std::num::wrapping_sub_u64(time(clock), (slots - 1) as u64);
+    let gone = std::num::wrapping_sub_u64(time(clock), slots as u64);
     forget_saved(index, gone, saved(&journal[at..end]))
 }
 

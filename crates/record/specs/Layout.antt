@@ -2,8 +2,9 @@
 -- proofs/RoundTrip.antt shows that the two agree.
 use Prim.Native.Nat.{ℕ, _+_, _*_}
 use mathlib.Core.Bool.{cond}
-use mathlib.Core.List.{List, [], _∷_}
+use mathlib.Core.List.{List, [], _∷_, _++_}
 use lib.Dec.{eqb}
+use lib.ListN.{take, drop}
 use Rattle.word.specs.Lists.{tabulate, flat, joined}
 use Rattle.word.specs.Sizes.{devices}
 use Rattle.word.specs.Little.{toBytes}
@@ -98,6 +99,14 @@ recordOf slot = recordAt (slotWord slot)
 
 -- ---- aids to proofs: nothing that a reader must believe
 
--- what is laid down before a step is decided, of the words that a run holds: it saves nothing yet
-unfoldable pub laidOf : List ℕ → List ℕ → List ℕ → List ℕ
-laidOf core small printers = joined (core ∷ small ∷ savedWords Nothing ∷ printers ∷ unused ∷ [])
+-- the bytes of the saved words in a slot
+abbrev pub savedIn : List ℕ → List ℕ
+savedIn slot = take 16 (drop (4 * savedBase) slot)
+
+-- what is laid down in a slot before a step is decided, of the words that a run holds: all but the saved words, whose old bytes stay, since the oldest record may stand there
+unfoldable pub laidOf : List ℕ → List ℕ → List ℕ → List ℕ → List ℕ
+laidOf core small printers slot = flat (toBytes 4) (core ++ small) ++ (savedIn slot ++ flat (toBytes 4) (printers ++ unused))
+
+-- the same, of a record
+abbrev pub begunIn : Record → List ℕ → List ℕ
+begunIn r = laidOf (keptWords (r .core)) (smallWords (r .timer) (r .pending) (r .paper .mask) (r .paper .bytes)) (flat printerWords (r .printers))

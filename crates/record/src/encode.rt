@@ -1,8 +1,6 @@
 // From what a run holds to the bytes of a record.
 ghost use mathlib.Core.Path.{_≡_};
 ghost use lib.ListN.{length};
-ghost use Rattle.word.specs.Lists.{flat};
-ghost use Rattle.word.specs.Little.{toBytes};
 ghost use Rattle.record.specs.Layout.{smallWords, savedWords, laidOf};
 use crate::Saved;
 use memory::load_word;
@@ -34,7 +32,8 @@ pub fn saved_words(s: Saved) -> [u32; 4]
 }
 
 // Lays down the record of what a run holds, each part as the words that it is held as, since this runs at every step. What is saved is known only when the step
-// is decided, so here its words only hold their place. The copies to a local let the compiler move many words at a time.
+// is decided: till then its words stay as they are, since those of the oldest record may stand there and are asked for once more. The copies to a local, and the
+// printers' words in two halves, let the compiler move many words at a time.
 pub fn encode(
     core: &[u32; 14],
     timer: u32,
@@ -46,17 +45,16 @@ pub fn encode(
     requires { ⌜ length (now slot) ≡ 256 ⌝ }
     requires { ⌜ length (now core) ≡ 14 ⌝ }
     requires { ⌜ length (now words) ≡ 40 ⌝ }
-    ensures { λ _. ⌜ now (slot .exit) ≡ flat (toBytes 4) (laidOf (now (core .entry)) (smallWords timer pending (paper .mask) (paper .bytes)) (now (words .entry))) ⌝ }
+    ensures { λ _. ⌜ now (slot .exit) ≡ laidOf (now (core .entry)) (smallWords timer pending (paper .mask) (paper .bytes)) (now (words .entry)) (now (slot .entry)) ⌝ }
 {
     let bytes = paper.bytes;
     let small = small_words(timer, pending, paper.mask, bytes);
     let first = *core;
     put_words(&first, slot, 0);
     put_words(&small, slot, 56);
-    let saved = [0u32; 4];
-    put_words(&saved, slot, 76);
     let printers = *words;
-    put_words(&printers, slot, 92);
+    put_words(&printers[0..20], slot, 92);
+    put_words(&printers[20..40], slot, 172);
     let rest = [0u32; 1];
     put_words(&rest, slot, 252);
 }

@@ -139,16 +139,7 @@ fn spin(
             break look.why;
         }
         limit = look.limit;
-        let after = start(
-            &mut core,
-            held,
-            settings,
-            &mut words,
-            paper,
-            journal,
-            mark,
-            index,
-        );
+        let after = start(&mut core, held, settings, &mut words, paper, journal, mark);
         let now = core_in(&core);
         let d = decide(now, &regs, rows, execution, bootstrap, ram);
         let effect = d.effect;

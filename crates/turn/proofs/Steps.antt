@@ -25,7 +25,7 @@ use Rattle.decide.specs.declared.effect.Effect.{Effect}
 use Rattle.clock.specs.Tick.{timeOf}
 use Rattle.clock.specs.declared.Clock.{Clock}
 use Rattle.frames.specs.Bytes.{whole, markAllIn}
-use Rattle.indexed.specs.Ahead.{tagOf, onwardOf}
+use Rattle.indexed.specs.Ahead.{droppedOf, tagOf, onwardOf}
 use Rattle.marks.specs.Index.{placesOf, distanceIn, ahead}
 use Rattle.marks.specs.Steps.{forgottenOf, belowIn, keptOf, touchIn, markedOf}
 use Rattle.marks.proofs.Machine.{step-ram, tick-next}
@@ -39,10 +39,11 @@ use Rattle.step.specs.Note.{savedOf, noteOf}
 use Rattle.step.proofs.Ticks.{tick-parts}
 use Rattle.step.proofs.Applied.{apply-parts}
 use Rattle.step.proofs.Effects.{saved-row}
-use Rattle.ring.specs.Slots.{Ring, nextSlot, written}
-use Rattle.record.specs.Layout.{recordBytes}
+use Rattle.ring.specs.Slots.{Ring, slot, slotBack, written}
+use Rattle.ring.proofs.Slots.{back-next}
+use Rattle.record.specs.Layout.{recordBytes, recordOf}
 use Rattle.journal.specs.Journal.{slotsOf, ringOf, Ready, heldRecord, begunOf, endedOf, withSaved}
-use Rattle.journal.proofs.TwoParts.{begun-ended, begun-ready}
+use Rattle.journal.proofs.TwoParts.{begun-ended, begun-ready, begun-saved}
 use Rattle.state.specs.declared.machine.Journal.{Journal}
 use Rattle.state.specs.declared.machine.Settings.{Settings}
 use Rattle.held.specs.Board.{printersIn, boardOf}
@@ -50,7 +51,7 @@ use Rattle.held.specs.Core.{coreIn}
 use Rattle.held.specs.declared.Held.{Held}
 use Rattle.held.proofs.Board.{length-printers}
 use Rattle.turn.specs.Buffers.{Beside, besideOf}
-use Rattle.turn.specs.Turn.{lentFrom, keptBy, keptIn, markedBy, markedIn, TurnIs}
+use Rattle.turn.specs.Turn.{lentFrom, Onward, forgottenIn, keptBy, keptIn, markedBy, markedIn, TurnIs}
 use Rattle.turn.specs.declared.Parts.{Parts}
 use Rattle.turn.specs.declared.Turned.{Turned}
 
@@ -121,24 +122,28 @@ still-ready {mark} {journal} r ready eight first = rw first (begun-ready mark r 
 
 -- ---- the index
 
-module _ (roms : Roms) (n : ℕ) (g : Ring) (w : World) (x : List ℕ) (time : ℕ) (e : Effect) (timed : time ≡ nextSlot whole (timeOf (w .board .clock))) (is : e ≡ effectIn roms w) where
+module _ (roms : Roms) (g g₁ : Ring) (w : World) (x : List ℕ) (clock : Clock) (e : Effect) (on : Onward (w .board .clock) clock) (is : e ≡ effectIn roms w)
+    (hand : g₁ .hand ≡ g .hand) where
+  -- the next slot saves the same in both rings
+  abbrev Saves : Type 0
+  Saves = recordOf (slot 256 (g₁ .bytes) (g₁ .next)) .saved ≡ recordOf (slot 256 (g .bytes) (g .next)) .saved
+
+  -- what is forgotten, at the clock after the tick, is what drops off
+  forgotten-is : (m : ℕ) → m < 65536 → Saves → forgottenOf (suc m) g₁ (timeOf clock) x ≡ droppedOf (ahead roms) m g w x
+  forgotten-is m few saves =
+      let back : slotBack whole (timeOf clock) (suc m) ≡ slotBack whole (timeOf (w .board .clock)) m =
+      ap (λ (t : ℕ). slotBack whole t (suc m)) (on .next) ∙ back-next whole (timeOf (w .board .clock)) m (on .small) (omega arith) in
+      rw (back, saves, hand)
+
   -- what the record keeps is its tag
-  pub kept-is : keptBy n (g .hand) time e (forgottenOf n g (timeOf (w .board .clock)) x) ≡ distanceIn (tagOf (ahead roms) n g w x)
-  kept-is = rw (timed, is) (go n)
-    where
-      go : (n : ℕ) → keptBy n (g .hand) (nextSlot whole (timeOf (w .board .clock))) (effectIn roms w) (forgottenOf n g (timeOf (w .board .clock)) x) ≡ distanceIn (tagOf (ahead roms) n g w x)
-      go zero = refl
-      go (suc m) = refl
+  pub kept-is : (n : ℕ) → n ≤ 65536 → (0 < n → Saves) → keptBy n (g₁ .hand) (timeOf clock) e (forgottenOf n g₁ (timeOf clock) x) ≡ distanceIn (tagOf (ahead roms) n g w x)
+  kept-is zero few saves = refl
+  kept-is (suc m) few saves = rw (forgotten-is m (omega arith) (saves (omega arith)), on .next, is, hand)
 
   -- what is marked is the index after the step
-  pub marked-is : markedBy n time e (w .ram) (forgottenOf n g (timeOf (w .board .clock)) x) ≡ onwardOf (ahead roms) n g w x
-  marked-is = rw (timed, is) (go n)
-    where
-      go : (n : ℕ) → markedBy n (nextSlot whole (timeOf (w .board .clock))) (effectIn roms w) (w .ram) (forgottenOf n g (timeOf (w .board .clock)) x) ≡ onwardOf (ahead roms) n g w x
-      go zero = refl
-      go (suc m) =
-          ap (λ (after : List ℕ). markAllIn (nextSlot whole (timeOf (w .board .clock))) (map (touchIn (w .ram) after) (placesOf (effectIn roms w))) (forgottenOf (suc m) g (timeOf (w .board .clock)) x))
-          (sym (step-ram roms w))
+  pub marked-is : (n : ℕ) → n ≤ 65536 → (0 < n → Saves) → markedBy n (timeOf clock) e (w .ram) (forgottenOf n g₁ (timeOf clock) x) ≡ onwardOf (ahead roms) n g w x
+  marked-is zero few saves = refl
+  marked-is (suc m) few saves = rw (forgotten-is m (omega arith) (saves (omega arith)), on .next, is, ← step-ram roms w)
 
 -- the record as it is begun
 abbrev pub begunRecord : Parts → Beside → Record
@@ -151,19 +156,17 @@ partsLeft p d r core words regs =
 
 -- start, decide, the old row, finish: together a turn
 pub turned-is : (settings : Settings) (p : Parts) (b : Beside) → Whole (lentFrom b) → Ready (b .journal) (p .mark) → length (p .rows) ≡ 16 →
-    {after : Held} {core₁ words₁ paper₁ journal₁ index₁ : List ℕ} → TickIs settings (p .core) (p .held) (p .words) (b .paper) after core₁ words₁ paper₁ →
-    journal₁ ≡ begunOf (p .mark) (begunRecord p b) (b .journal) → length journal₁ ≡ length (b .journal) →
-    index₁ ≡ forgottenOf (slotsOf (b .journal)) (ringOf (p .mark) (b .journal)) (timeOf (p .held .clock)) (b .index) →
-    timeOf (after .clock) ≡ nextSlot whole (timeOf (p .held .clock)) →
+    {after : Held} {core₁ words₁ paper₁ journal₁ : List ℕ} → TickIs settings (p .core) (p .held) (p .words) (b .paper) after core₁ words₁ paper₁ →
+    journal₁ ≡ begunOf (p .mark) (begunRecord p b) (b .journal) → length journal₁ ≡ length (b .journal) → Onward (p .held .clock) (after .clock) →
     {core : Core} → core ≡ coreIn core₁ →
     {d : Decision} → d ≡ decideOf core (p .regs) (p .rows) (lentFrom b) →
     {old : Row} → old ≡ oldRow (d .effect) (p .rows) →
     {r : Turned} {core₂ words₂ regs₂ ram₂ journal₂ index₂ : List ℕ} →
     ApplyIs settings (sizesOf (lentFrom b)) d core₁ after words₁ (p .regs) (b .ram) (r .held) core₂ words₂ regs₂ ram₂ →
-    ringOf (r .mark) journal₂ ≡ endedOf (p .mark) (savedWith (keptIn (p .mark) journal₁ (after .clock) (d .effect) index₁) (d .effect) (p .regs) old (b .ram)) journal₁ →
-    index₂ ≡ markedIn journal₁ (after .clock) (d .effect) (b .ram) index₁ →
+    ringOf (r .mark) journal₂ ≡ endedOf (p .mark) (savedWith (keptIn (p .mark) journal₁ (after .clock) (d .effect) (b .index)) (d .effect) (p .regs) old (b .ram)) journal₁ →
+    index₂ ≡ markedIn (p .mark) journal₁ (after .clock) (d .effect) (b .ram) (b .index) →
     TurnIs settings p b (d .effect) (partsLeft p d r core₂ words₂ regs₂) (besideOf (b .execution) (b .bootstrap) ram₂ paper₁ journal₂ index₂)
-turned-is settings p b whole ready sixteen {after} {core₁ = core₁} {journal₁ = journal₁} {index₁} ticked begun long forgot timed {core} read {d} decided {old} row applied ended marked =
+turned-is settings p b whole ready sixteen {after} {core₁ = core₁} {journal₁ = journal₁} ticked begun long on {core} read {d} decided {old} row applied ended marked =
     let x = b .execution in
     let y = b .bootstrap in
     let t = p .rows in
@@ -177,9 +180,13 @@ turned-is settings p b whole ready sixteen {after} {core₁ = core₁} {journal�
     let n = slotsOf (b .journal) in
     let same : slotsOf journal₁ ≡ n = ap (λ (k : ℕ). k / 256) long in
     let effect = effect-is x y from board t (p .regs) (b .ram) (b .paper) (ticked .world-is) chosen in
-    let far : ℕ = keptIn (p .mark) journal₁ (after .clock) (d .effect) index₁ in
+    let g₁ = ringOf (p .mark) journal₁ in
+    let few : n ≤ 65536 = omega (arith, ready .few) in
+    let saves : 0 < n → recordOf (slot 256 journal₁ (p .mark .«next_slot»)) .saved ≡ recordOf (slot 256 (b .journal) (p .mark .«next_slot»)) .saved =
+    λ some. rw begun (begun-saved (p .mark) (begunRecord p b) (b .journal) (length-printers (p .words)) ready some) in
+    let far : ℕ = keptIn (p .mark) journal₁ (after .clock) (d .effect) (b .index) in
     let far-is : far ≡ distanceIn (tagOf (ahead roms) n g here (b .index)) =
-    rw (same, forgot) (kept-is roms n g here (b .index) (timeOf (after .clock)) (d .effect) timed effect) in
+    rw same (kept-is roms g g₁ here (b .index) (after .clock) (d .effect) on effect refl n few saves) in
     let kept =
     ap (λ (o : Row). savedWith far (d .effect) (p .regs) o (b .ram)) row ∙ saved-row far (length (b .ram)) (p .regs) t (b .ram) (d .effect) within in
     record {
@@ -191,17 +198,20 @@ turned-is settings p b whole ready sixteen {after} {core₁ = core₁} {journal�
           ∙ ap (λ (k : ℕ). written 256 n (recordBytes (noteOf k roms here)) g) far-is;
       index-is =
           marked
-          ∙ rw (same, forgot) (marked-is roms n g here (b .index) (timeOf (after .clock)) (d .effect) timed effect);
+          ∙ rw same (marked-is roms g g₁ here (b .index) (after .clock) (d .effect) on effect refl n few saves);
       told = applied .told;
       fourteen = applied .fourteen;
     }
 
 -- the clock of the run goes on by one
 pub clock-next : (settings : Settings) (core : List ℕ) (held : Held) (words paper : List ℕ) (after : Held) (core₁ words₁ paper₁ : List ℕ) →
-    TickIs settings core held words paper after core₁ words₁ paper₁ → timeOf (held .clock) < 2 ^ 64 → timeOf (after .clock) ≡ nextSlot whole (timeOf (held .clock))
+    TickIs settings core held words paper after core₁ words₁ paper₁ → timeOf (held .clock) < 2 ^ 64 → Onward (held .clock) (after .clock)
 unfolding tickOf
 clock-next settings core held words paper after core₁ words₁ paper₁ ticked small =
-    ap (λ (w : World). timeOf (w .board .clock)) (ticked .world-is) ∙ tick-next (held .clock) small
+    record {
+      small = small;
+      next = ap (λ (w : World). timeOf (w .board .clock)) (ticked .world-is) ∙ tick-next (held .clock) small;
+    }
 
 -- ---- with no slots
 
@@ -211,27 +221,26 @@ no-slots journal short = eq-eqb (slotsOf journal) 0 (omega (arith, short))
 pub not-begun : (mark : Journal) (r : Record) (journal : List ℕ) → length journal < 256 → begunOf mark r journal ≡ journal
 not-begun mark r journal short = rw (no-slots journal short)
 
-pub not-marked : (journal : List ℕ) (clock : Clock) (e : Effect) (ram x : List ℕ) → length journal < 256 → markedIn journal clock e ram x ≡ x
-not-marked journal clock e ram x short =
+pub not-marked : (mark : Journal) (journal : List ℕ) (clock : Clock) (e : Effect) (ram x : List ℕ) → length journal < 256 → markedIn mark journal clock e ram x ≡ x
+not-marked mark journal clock e ram x short =
     let none : slotsOf journal ≡ 0 = omega (arith, short) in
-    ap (λ (n : ℕ). markedBy n (timeOf clock) e ram x) none
+    ap (λ (n : ℕ). markedBy n (timeOf clock) e ram (forgottenOf n (ringOf mark journal) (timeOf clock) x)) none
 
 -- with some, the two are worked out
-pub kept-some : (mark : Journal) (journal : List ℕ) (clock : Clock) (e : Effect) (x : List ℕ) → 256 ≤ length journal →
-    keptOf (timeOf clock) (belowIn (slotsOf journal) (mark .«on_hand»)) e x ≡ keptIn mark journal clock e x
-kept-some mark journal clock e x some = go (slotsOf journal) (omega arith)
-  where
-    go : (n : ℕ) → 0 < n → keptOf (timeOf clock) (belowIn n (mark .«on_hand»)) e x ≡ keptBy n (mark .«on_hand») (timeOf clock) e x
-    go zero h = absurd (omega arith)
-    go (suc m) h = refl
+module _ (mark : Journal) (journal : List ℕ) (clock : Clock) (e : Effect) (x : List ℕ) (some : 256 ≤ length journal) where
+  pub kept-some : keptOf (timeOf clock) (belowIn (slotsOf journal) (mark .«on_hand»)) e (forgottenIn mark journal clock x) ≡ keptIn mark journal clock e x
+  kept-some = go (slotsOf journal) (omega arith) (forgottenIn mark journal clock x)
+    where
+      go : (n : ℕ) → 0 < n → (l : List ℕ) → keptOf (timeOf clock) (belowIn n (mark .«on_hand»)) e l ≡ keptBy n (mark .«on_hand») (timeOf clock) e l
+      go zero h l = absurd (omega arith)
+      go (suc m) h l = refl
 
-pub marked-some : (journal : List ℕ) (clock : Clock) (e : Effect) (ram x : List ℕ) → 256 ≤ length journal →
-    markedOf (timeOf clock) e ram x ≡ markedIn journal clock e ram x
-marked-some journal clock e ram x some = go (slotsOf journal) (omega arith)
-  where
-    go : (n : ℕ) → 0 < n → markedOf (timeOf clock) e ram x ≡ markedBy n (timeOf clock) e ram x
-    go zero h = absurd (omega arith)
-    go (suc m) h = refl
+  pub marked-some : (ram : List ℕ) → markedOf (timeOf clock) e ram (forgottenIn mark journal clock x) ≡ markedIn mark journal clock e ram x
+  marked-some ram = go (slotsOf journal) (omega arith) (forgottenIn mark journal clock x)
+    where
+      go : (n : ℕ) → 0 < n → (l : List ℕ) → markedOf (timeOf clock) e ram l ≡ markedBy n (timeOf clock) e ram l
+      go zero h l = absurd (omega arith)
+      go (suc m) h l = refl
 
 pub not-ended : (mark : Journal) (old : Saved) (journal : List ℕ) → length journal < 256 → endedOf mark old journal ≡ ringOf mark journal
 not-ended mark old journal short = rw (no-slots journal short)

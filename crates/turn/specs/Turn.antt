@@ -1,10 +1,10 @@
 -- One step with its record: what is asked of what a run holds and is lent, and all that a turn of the loop leaves.
-use Prim.Native.Nat.{ℕ, zero, suc, _≤_}
+use Prim.Native.Nat.{ℕ, zero, suc, _^_, _≤_, _<_}
 use mathlib.Core.Path.{_≡_}
 use mathlib.Core.List.{List}
 use lib.ListN.{length}
 use Rattle.word.specs.Sizes.{recordSize}
-use Rattle.ring.specs.Slots.{written}
+use Rattle.ring.specs.Slots.{nextSlot, written}
 use Rattle.journal.specs.Journal.{slotsOf, ringOf, Ready}
 use Rattle.clock.specs.Tick.{timeOf}
 use Rattle.clock.specs.declared.Clock.{Clock}
@@ -19,7 +19,8 @@ use Rattle.step.specs.World.{World, worldOf}
 use Rattle.step.specs.Step.{effectIn, stepOf}
 use Rattle.indexed.specs.Ahead.{tagOf, onwardOf}
 use Rattle.marks.specs.Index.{ahead}
-use Rattle.marks.specs.Steps.{belowIn, keptOf, markedOf}
+use Rattle.frames.specs.Bytes.{whole}
+use Rattle.marks.specs.Steps.{forgottenOf, belowIn, keptOf, markedOf}
 use Rattle.turn.specs.Buffers.{Beside, romsIn}
 use Rattle.turn.specs.declared.Parts.{Parts}
 
@@ -35,20 +36,29 @@ pub record Fit (core : List ℕ) (held : Held) (words paper journal : List ℕ) 
   pub short : length paper ≤ 65536
   pub ready : Ready journal mark
 
--- what the record of a step keeps of the index, and the index with the step marked: with no slots neither is worked out
+-- the clock of a step and the one before it, of 64 bits
+pub record Onward (before after : Clock) : Type 0 where
+  pub small : timeOf before < 2 ^ 64
+  pub next : timeOf after ≡ nextSlot whole (timeOf before)
+
+-- the index with the oldest record forgotten, which the step at this clock goes over
+abbrev pub forgottenIn : Journal → List ℕ → Clock → List ℕ → List ℕ
+forgottenIn mark journal clock x = forgottenOf (slotsOf journal) (ringOf mark journal) (timeOf clock) x
+
+-- what the record of a step keeps of that index, and that index with the step marked: with no slots neither is worked out
 abbrev pub keptBy : ℕ → ℕ → ℕ → Effect → List ℕ → ℕ
 keptBy zero hand time e x = 0
 keptBy (suc m) hand time e x = keptOf time (belowIn (suc m) hand) e x
 
 abbrev pub keptIn : Journal → List ℕ → Clock → Effect → List ℕ → ℕ
-keptIn mark journal clock e x = keptBy (slotsOf journal) (mark .«on_hand») (timeOf clock) e x
+keptIn mark journal clock e x = keptBy (slotsOf journal) (mark .«on_hand») (timeOf clock) e (forgottenIn mark journal clock x)
 
 abbrev pub markedBy : ℕ → ℕ → Effect → List ℕ → List ℕ → List ℕ
 markedBy zero time e ram x = x
 markedBy (suc m) time e ram x = markedOf time e ram x
 
-abbrev pub markedIn : List ℕ → Clock → Effect → List ℕ → List ℕ → List ℕ
-markedIn journal clock e ram x = markedBy (slotsOf journal) (timeOf clock) e ram x
+abbrev pub markedIn : Journal → List ℕ → Clock → Effect → List ℕ → List ℕ → List ℕ
+markedIn mark journal clock e ram x = markedBy (slotsOf journal) (timeOf clock) e ram (forgottenIn mark journal clock x)
 
 -- the world of the parts that a run holds
 abbrev pub worldHeld : Parts → Settings → Beside → World

@@ -2,20 +2,16 @@
 // it keeps of the state, and ended with what the step overwrites once that is decided: so no old value is kept aside while the step works. The decision itself, which
 // takes the table by value, is the loop's to ask for: a function that took the table in and on would copy it in every step (docs/SPEED.md).
 ghost use mathlib.Core.Path.{_≡_};
-ghost use Prim.Native.Nat.{_%_};
 ghost use lib.ListN.{length};
 ghost use Rattle.printer.specs.Saved.{savedPaperOf};
 ghost use Rattle.held.specs.Board.{printersIn, Told};
 ghost use Rattle.decide.specs.Range.{Within};
-ghost use Rattle.journal.specs.Journal.{slotsOf, ringOf, Ready, heldRecord, begunOf, endedOf};
+ghost use Rattle.journal.specs.Journal.{ringOf, Ready, heldRecord, begunOf, endedOf};
 ghost use Rattle.decide.specs.Lent.{lentOf, sizesOf, Whole};
 ghost use Rattle.step.specs.Held.{TickIs, ApplyIs};
 ghost use Rattle.step.specs.Parts.{savedWith};
-ghost use Rattle.marks.specs.Steps.{FitsRam, forgottenOf};
-ghost use Rattle.clock.specs.Tick.{timeOf};
-ghost use Rattle.ring.specs.Slots.{nextSlot};
-ghost use Rattle.frames.specs.Bytes.{whole};
-ghost use Rattle.turn.specs.Turn.{Fit, keptIn, markedIn};
+ghost use Rattle.marks.specs.Steps.{FitsRam};
+ghost use Rattle.turn.specs.Turn.{Fit, Onward, keptIn, markedIn};
 use clock::Clock;
 use clock::time;
 use decide::effect::Decision;
@@ -108,17 +104,18 @@ fn end(
         ≡ endedOf mark (savedWith (keptIn mark (now (journal .entry)) clock effect (now (index .entry))) effect (now (regs .entry)) old (now (ram .entry)))
         (now (journal .entry))
         ⌝ }
-    ensures { λ _. ⌜ now (index .exit) ≡ markedIn (now (journal .entry)) clock effect (now (ram .entry)) (now (index .entry)) ⌝ }
+    ensures { λ _. ⌜ now (index .exit) ≡ markedIn mark (now (journal .entry)) clock effect (now (ram .entry)) (now (index .entry)) ⌝ }
 {
     if journal.len() < SLOT {
         return mark;
     }
+    forget(index, journal, mark, clock);
     let under = below(journal.len() / SLOT, mark.on_hand);
     let distance = marks::onward::mark(index, time(clock), under, ram, effect);
     ended(journal, mark, saved(effect, regs, old, ram, distance))
 }
 
-// Before the decision: the oldest record forgotten, the new one begun, and the tick.
+// Before the decision: the record begun, and the tick.
 pub fn start(
     core: &mut [u32; 14],
     held: Held,
@@ -127,10 +124,8 @@ pub fn start(
     paper: &mut [u8],
     journal: &mut [u8],
     mark: Journal,
-    index: &mut [u8],
 ) -> Held
     requires { ⌜ Fit (now core) held (now words) (now paper) (now journal) mark ⌝ }
-    requires { ⌜ length (now index) % 16 ≡ 0 ⌝ }
     ensures { λ r. ⌜
         TickIs settings (now (core .entry)) held (now (words .entry)) (now (paper .entry)) r
         (now (core .exit)) (now (words .exit)) (now (paper .exit))
@@ -141,19 +136,13 @@ pub fn start(
         (heldRecord (now (core .entry)) (held .clock .timer) (held .pending) (savedPaperOf (printersIn (now (words .entry))) (now (paper .entry))) (now (words .entry)))
         (now (journal .entry))
         ⌝ }
-    ensures { λ _. ⌜
-        now (index .exit)
-        ≡ forgottenOf (slotsOf (now (journal .entry))) (ringOf mark (now (journal .entry))) (timeOf (held .clock)) (now (index .entry))
-        ⌝ }
-    ensures { λ r. ⌜ timeOf (r .clock) ≡ nextSlot whole (timeOf (held .clock)) ⌝ }
+    ensures { λ r. ⌜ Onward (held .clock) (r .clock) ⌝ }
 {
-    let clock = held.clock;
-    forget(index, journal, mark, clock);
     begin(journal, mark, core, held, words, paper);
     ticked(core, held, settings, words, paper)
 }
 
-// After the decision: the record ended, and the effect. `old` is the row that the effect overwrites; the table itself is the caller's to set.
+// After the decision: the oldest record forgotten, the new one ended, and the effect. `old` is the row that the effect overwrites; the table itself is the caller's to set.
 pub fn finish(
     core: &mut [u32; 14],
     after: Held,
@@ -183,7 +172,7 @@ pub fn finish(
         ≡ endedOf mark (savedWith (keptIn mark (now (journal .entry)) (after .clock) (d .effect) (now (index .entry))) (d .effect) (now (regs .entry)) old (now (ram .entry)))
         (now (journal .entry))
         ⌝ }
-    ensures { λ _. ⌜ now (index .exit) ≡ markedIn (now (journal .entry)) (after .clock) (d .effect) (now (ram .entry)) (now (index .entry)) ⌝ }
+    ensures { λ _. ⌜ now (index .exit) ≡ markedIn mark (now (journal .entry)) (after .clock) (d .effect) (now (ram .entry)) (now (index .entry)) ⌝ }
 {
     let effect = d.effect;
     let clock = after.clock;

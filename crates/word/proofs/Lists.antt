@@ -1,5 +1,5 @@
 -- Laws of `tabulate` and `flat`, once for every element type and every size of an element.
-use Prim.Native.Nat.{ℕ, zero, suc, _+_, _*_, _<_}
+use Prim.Native.Nat.{ℕ, zero, suc, _+_, _*_, _≤_, _<_}
 use mathlib.Core.Path.{_≡_, refl, sym, ap, _∙_}
 use mathlib.Core.List.{List, [], _∷_, _++_, append-assoc, append-nil}
 use mathlib.Core.Bool.{Bool, true, _&&_}
@@ -9,8 +9,8 @@ use lib.Dec.{ltb}
 use native.Mathlib.Nat.{zero-add, add-zero, mul-zero, mul-suc, add-comm, add-assoc}
 use native.Mathlib.Decide.{decLt}
 use native.Mathlib.Numerals.{add-one}
-use lib.ListN.{length, getD, take, drop, set, length-append, List·getD-append}
-use lib.Seq.{drop-cons, take-suc, set-at, getD-at, getD-append-add, length-take-le, drop-length, ext-getD, sets, sets-eq}
+use lib.ListN.{length, getD, take, drop, set, length-set, length-append, List·getD-append}
+use lib.Seq.{drop-cons, take-suc, set-at, getD-at, getD-append-add, length-take-le, drop-length, ext-getD, sets, sets-eq, set-append-left}
 use Rattle.word.proofs.Cond.{both}
 use Rattle.word.specs.Lists.{tabulate, flat, Below}
 
@@ -31,6 +31,34 @@ pub sets-two : (l us vs : List ℕ) (n : ℕ) → length us ≡ n → length (us
 sets-two l us vs n e h =
     let place : 0 + length us ≡ n = omega arith in
     (rw place at (sym (sets-append us vs l 0))) ∙ sets-whole l (us ++ vs) h
+
+-- ---- stores into a part of a list
+
+sets-cons : (x : ℕ) (l vs : List ℕ) (at : ℕ) → sets (x ∷ l) (suc at) vs ≡ x ∷ sets l at vs
+sets-cons x l [] at = refl
+sets-cons x l (v ∷ vs) at = sets-cons x (set l at v) vs (suc at)
+
+-- into the second of two lists
+pub sets-right : (p l vs : List ℕ) (at : ℕ) → sets (p ++ l) (length p + at) vs ≡ p ++ sets l at vs
+sets-right [] l vs at = rw (zero-add at)
+sets-right (x ∷ p) l vs at =
+    let e : suc (length p) + at ≡ suc (length p + at) = omega arith in
+    rw e (sets-cons x (p ++ l) vs (length p + at) ∙ ap (λ (m : List ℕ). x ∷ m) (sets-right p l vs at))
+
+-- into the first
+pub sets-left : (l q vs : List ℕ) (at : ℕ) → at + length vs ≤ length l → sets (l ++ q) at vs ≡ sets l at vs ++ q
+sets-left l q [] at h = refl
+sets-left l q (v ∷ vs) at h =
+    ap (λ (m : List ℕ). sets m (suc at) vs) (set-append-left l q at v (omega arith))
+    ∙ sets-left (set l at v) q vs (suc at) (omega (arith, length-set l at v))
+
+-- over a part in the middle
+pub sets-part : (p old q new : List ℕ) (at : ℕ) → length p ≡ at → length new ≡ length old → sets (p ++ (old ++ q)) at new ≡ p ++ (new ++ q)
+sets-part p old q new at e same =
+    let start : length p + 0 ≡ at = omega (arith, e) in
+    ap (λ (n : ℕ). sets (p ++ (old ++ q)) n new) (sym start)
+    ∙ sets-right p (old ++ q) new 0
+    ∙ ap (λ (m : List ℕ). p ++ m) (sets-left old q new 0 (omega arith) ∙ ap (λ (m : List ℕ). m ++ q) (sets-whole old new same))
 
 module _ {A : Type 0} where
   pub length-tabulate : (n : ℕ) (g : ℕ → A) → length (tabulate n g) ≡ n

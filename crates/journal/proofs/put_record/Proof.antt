@@ -1,13 +1,16 @@
 -- `journal::put_record` meets its contract: what the part that was lent leaves in the whole is `put` of the ring.
-use Prim.Native.Nat.{ℕ, _+_, _-_, _*_}
+use Prim.Native.Nat.{ℕ, _+_, _-_, _*_, _/_}
+use native.Mathlib.Omega.{arith}
+use mathlib.Core.List.{List}
 use mathlib.Core.Path.{_≡_, sym, ap, _∙_}
 use lib.ListN.{length}
 use borrow.Author.Needs.{needs}
 use borrow.Rule.Slice.PartMut.{putMid}
-use Rattle.ring.proofs.Slots.{put-part}
+use Rattle.ring.specs.Slots.{slot}
+use Rattle.ring.proofs.Slots.{put-part, slot-part, length-slot}
 use Rattle.record.specs.declared.Record.{Record}
-use Rattle.record.specs.Layout.{recordBytes}
-use Rattle.record.proofs.Stored.{length-bytes}
+use Rattle.record.specs.Layout.{begunIn}
+use Rattle.record.proofs.Later.{length-begun}
 use Rattle.held.proofs.Board.{length-printers}
 use Rattle.journal.specs.Journal.{heldRecord}
 use Rattle.journal.proofs.HeldRecord.{laid-held}
@@ -38,14 +41,17 @@ same-length c = search needs
 returns : tie.Need-returns
 returns c =
     let start = c .before .before .before .before .before in
-    let at : ℕ = 256 * start .args .slot in
+    let journal = start .args .journal .now in
+    let at : ℕ = 256 * start .args .next in
     let core = start .args .core .now in
     let words = start .args .words .now in
     let r : Record = heldRecord core (start .args .timer) (start .args .pending) (start .args .paper) words in
-    let same = laid-held core (start .args .timer) (start .args .pending) (start .args .paper) words (start .pre .1 .0) (start .pre .1 .1) in
-    let long : length (recordBytes r) ≡ 256 = length-bytes r (length-printers words) in
-    ap (putMid at (at + 256 - at) (start .args .journal .now)) (c .before .before .encode .ensures ∙ same)
-    ∙ put-part (start .args .journal .now) at (at + 256) (recordBytes r) (ap (λ (n : ℕ). at + n) (sym long))
+    let old : List ℕ = slot 256 journal (start .args .next) in
+    let same = laid-held core (start .args .timer) (start .args .pending) (start .args .paper) words old (start .pre .1 .0) (start .pre .1 .1) in
+    let room : length old ≡ 256 = length-slot 256 (length journal / 256) journal (omega arith) (start .args .next) (start .pre .0) in
+    let long : length (begunIn r old) ≡ 256 = length-begun r old room (length-printers words) in
+    ap (putMid at (at + 256 - at) journal) (rw (slot-part 256 journal (start .args .next)) at (c .before .before .encode .ensures) ∙ same)
+    ∙ put-part journal at (at + 256) (begunIn r old) (ap (λ (n : ℕ). at + n) (sym long))
 
 pub put-record-spec : {M : Type 1} → statement M
 put-record-spec =

@@ -30,7 +30,7 @@ use Rattle.meets.proofs.Quiet.{meets-one}
 use Rattle.turn.specs.Buffers.{Beside, besideOf, romsIn}
 use Rattle.turn.specs.Turn.{lentFrom, worldHeld, TurnIs}
 use Rattle.turn.specs.declared.Parts.{Parts}
-use Rattle.turn.proofs.Steps.{turned-is, partsLeft, decided-fits, still-ready}
+use Rattle.turn.proofs.Steps.{turned-is, begunRecord, partsLeft, decided-fits, still-ready}
 use Rattle.run.specs.Run.{forward}
 use Rattle.run.specs.Spin.{configOf}
 use Rattle.run.proofs.Turns as turns
@@ -81,13 +81,13 @@ abbrev read : After → tie.After-core-in Inv-loop μ-loop
 read c = decided c .before .before .before
 
 abbrev started : After → tie.After-start Inv-loop μ-loop
-started c = read c .before .before .before .before .before .before .before .before
+started c = read c .before .before .before .before .before .before
 
 abbrev Looked : Type 0
 Looked = tie.After-looked Inv-loop μ-loop
 
 abbrev single : After → tie.Else1 Inv-loop μ-loop
-single c = started c .before .before .before .before .before .before
+single c = started c .before .before .before .before .before
 
 abbrev looked : After → Looked
 looked c = single c .before
@@ -111,8 +111,8 @@ besideAt h = let a = entry h .args in besideOf (a .execution .now) (a .bootstrap
 whole-at : (h : Head) → Whole (lentFrom (besideAt h))
 whole-at h = turns.still-whole (h .loop .inv .1) (entry h .pre .whole)
 
-within-at : (d : tie.After-decide Inv-loop μ-loop) → Within (length (headOf (d .before .before .before .before .before .before .before .before .before .before .before .before .before .before .before .before .before .before) .loop .ram)) 16 (d .decide .result .effect)
-within-at d = let h = headOf (d .before .before .before .before .before .before .before .before .before .before .before .before .before .before .before .before .before .before) in decided-fits (whole-at h) _ _ (h .loop .rows) (h .loop .inv .6) (d .decide .ensures)
+within-at : (d : tie.After-decide Inv-loop μ-loop) → Within (length (headOf (d .before .before .before .before .before .before .before .before .before .before .before .before .before .before .before) .loop .ram)) 16 (d .decide .result .effect)
+within-at d = let h = headOf (d .before .before .before .before .before .before .before .before .before .before .before .before .before .before .before) in decided-fits (whole-at h) _ _ (h .loop .rows) (h .loop .inv .6) (d .decide .ensures)
 
 -- what the look asked, and what it says of a step that is taken
 abbrev asks : Head → Bool
@@ -159,11 +159,11 @@ module _ (c : After) where
   turn-is : TurnIs (a .args .settings) (partsAt h) (besideAt h) (d .effect) partsThen besideThen
   turn-is =
       turned-is (a .args .settings) (partsAt h) (besideAt h) (whole-at h) (h .loop .inv .5) (h .loop .inv .6) (started c .start .ensures .0) (started c .start .ensures .1 .0)
-      (started c .start .kept .1 .1 .1 .1 .1 .0) (started c .start .ensures .1 .1 .0) (started c .start .ensures .1 .1 .1)
+      (started c .start .kept .1 .1 .1 .1 .1 .0) (started c .start .ensures .1 .1)
       (read c .core-in .ensures) (decided c .decide .ensures) (asked c .old-row .ensures) (finished c .finish .ensures .0) (finished c .finish .ensures .1 .0) (finished c .finish .ensures .1 .1)
 
   index-long : length (besideThen .index) ≡ length (h .loop .index)
-  index-long = finished c .finish .kept .1 .1 .1 .1 .1 .1 .1 .1 .1 .1 .1 .1 .0 ∙ started c .start .kept .1 .1 .1 .1 .1 .1 .1 .0
+  index-long = finished c .finish .kept .1 .1 .1 .1 .1 .1 .1 .1 .1 .1 .1 .1 .0
 
   journal-long : length (besideThen .journal) ≡ length (h .loop .journal)
   journal-long = finished c .finish .kept .1 .1 .1 .1 .1 .1 .1 .1 .1 .1 .0 ∙ started c .start .kept .1 .1 .1 .1 .1 .0
@@ -236,22 +236,20 @@ looked-requires c κs =
 
 start-requires : tie.Need-start-requires Inv-loop μ-loop
 start-requires c κs =
-    let h = headOf (c .before .before .before .before .before .before) in (
-      record {
-        fourteen = h .loop .inv .7;
-        told = h .loop .inv .4;
-        short = rw (h .loop .inv .2) (entry h .pre .short);
-        ready = h .loop .inv .5;
-      },
-      omega (arith, entry h .pre .framed .sixteen-each, h .loop .inv .9),
-    )
+    let h = headOf (c .before .before .before .before .before) in
+    record {
+      fourteen = h .loop .inv .7;
+      told = h .loop .inv .4;
+      short = rw (h .loop .inv .2) (entry h .pre .short);
+      ready = h .loop .inv .5;
+    }
 
 core-in-requires : tie.Need-core-in-requires Inv-loop μ-loop
 core-in-requires c κs = search needs
 
 decide-requires : tie.Need-decide-requires Inv-loop μ-loop
 decide-requires c κs =
-    let h = headOf (c .before .before .before .before .before .before .before .before .before .before .before .before .before .before .before .before .before) in
+    let h = headOf (c .before .before .before .before .before .before .before .before .before .before .before .before .before .before) in
     (whole-at h, h .loop .inv .8)
 
 old-row-requires : tie.Need-old-row-requires Inv-loop μ-loop
@@ -260,11 +258,11 @@ old-row-requires c κs = search needs
 finish-requires : tie.Need-finish-requires Inv-loop μ-loop
 finish-requires c κs =
     let decided = c .before .before .before .before .before .before .before in
-    let started = decided .before .before .before .before .before .before .before .before .before .before .before in
-    let h = headOf (started .before .before .before .before .before .before .before) in
+    let started = decided .before .before .before .before .before .before .before .before .before in
+    let h = headOf (started .before .before .before .before .before .before) in
     let framed = entry h .pre .framed in
-    let long = started .start .kept .1 .1 .1 .1 .1 .1 .1 .0 ∙ h .loop .inv .9 in
-    (still-ready _ (h .loop .inv .5) (length-printers (h .loop .words)) (started .start .ensures .1 .0), (record { whole-frames = rw (h .loop .inv .1) (framed .whole-frames); sixteen-each = rw (long, h .loop .inv .1) (framed .sixteen-each) }, (within-at decided, (started .start .ensures .0 .told, whole-at h))))
+    let long = h .loop .inv .9 in
+    (still-ready (begunRecord (partsAt h) (besideAt h)) (h .loop .inv .5) (length-printers (h .loop .words)) (started .start .ensures .1 .0), (record { whole-frames = rw (h .loop .inv .1) (framed .whole-frames); sixteen-each = rw (long, h .loop .inv .1) (framed .sixteen-each) }, (within-at decided, (started .start .ensures .0 .told, whole-at h))))
 
 add-steps : tie.Need-add-steps Inv-loop μ-loop
 add-steps c = omega (arith, left-of c, entry (head c) .fits .budget)

@@ -1,6 +1,8 @@
 -- `turn::begin` meets its contract.
 use mathlib.Core.Path.{sym, ap, _∙_}
+use Rattle.printer.specs.Saved.{savedPaperOf}
 use Rattle.printer.specs.declared.saved.SavedPaper.{SavedPaper}
+use Rattle.held.specs.Board.{printersIn}
 use Rattle.journal.specs.Journal.{heldRecord, begunOf}
 use Rattle.turn.proofs.Steps.{not-begun}
 use borrow.Author.Needs.{needs}
@@ -10,7 +12,8 @@ use Rattle.turn.proofs.begin.Tie as tie
 returns : tie.Need-returns
 returns c =
     let a = c .before .before .before .args in
-    sym (not-begun (a .mark) _ (a .journal .now) (c .if1 .taken))
+    let kept = savedPaperOf (printersIn (a .words .now)) (a .paper .now) in
+    sym (not-begun (a .mark) (heldRecord (a .core .now) (a .held .clock .timer) (a .held .pending) kept (a .words .now)) (a .journal .now) (c .if1 .taken))
 
 kept-paper-requires : tie.Need-kept-paper-requires
 kept-paper-requires c κs = c .before .before .before .pre .1 .1

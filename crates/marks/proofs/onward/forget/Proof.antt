@@ -1,5 +1,5 @@
--- `marks::onward::forget` meets its contract: a slot is free, there is none, or the next one holds the oldest record.
-use Prim.Native.Nat.{ℕ, _-_}
+-- `marks::onward::forget` meets its contract: a slot is free, or the next one holds the oldest record.
+use Prim.Native.Nat.{ℕ}
 use mathlib.Core.Path.{ap, _∙_}
 use mathlib.Core.List.{List}
 use native.Mathlib.Omega.{arith}
@@ -10,7 +10,7 @@ use Rattle.record.specs.Layout.{recordOf}
 use Rattle.journal.specs.Journal.{slotsOf, ringOf}
 use Rattle.frames.specs.Bytes.{whole}
 use Rattle.frames.proofs.Answers.{wraps-back}
-use Rattle.marks.proofs.Answers.{forgets-none, forgets-room, forgets-full}
+use Rattle.marks.proofs.Answers.{forgets-room, forgets-full}
 use borrow.Author.Needs.{needs}
 use Rattle.marks.proofs.onward.forget.Statement.{statement}
 use Rattle.marks.proofs.onward.forget.Tie as tie
@@ -23,11 +23,6 @@ returns c =
     let a = c .before .before .before .before .args in
     forgets-room (ringOf (a .mark) (a .journal .now)) (timeOf (a .clock)) (a .index .now) (slotsOf (a .journal .now)) (c .if1 .taken)
 
-returns-2 : tie.Need-returns-2
-returns-2 c =
-    let a = c .before .before .before .before .before .args in
-    forgets-none (ringOf (a .mark) (a .journal .now)) (timeOf (a .clock)) (a .index .now) (slotsOf (a .journal .now)) (c .if2 .taken)
-
 cast-at : tie.Need-cast-at
 cast-at c = search needs
 
@@ -39,9 +34,6 @@ add-end c = search needs
 
 time-requires : tie.Need-time-requires
 time-requires c κs = search needs
-
-sub-wrapping-sub-u64 : tie.Need-sub-wrapping-sub-u64
-sub-wrapping-sub-u64 c = search needs
 
 wrapping-sub-u64-requires : tie.Need-wrapping-sub-u64-requires
 wrapping-sub-u64-requires c κs = search needs
@@ -64,21 +56,21 @@ forget-saved-requires c κs = search needs
 same-length : tie.Need-same-length
 same-length c = search needs
 
-returns-3 : tie.Need-returns-3
-returns-3 c =
+returns-2 : tie.Need-returns-2
+returns-2 c =
     let forgot = c .before .before in
     let read = forgot .before in
     let wrapped = read .before .before .before in
     let timed = wrapped .before in
-    let some = timed .before .before in
-    let full = some .before in
-    let a = full .before .before .before .before .args in
+    let full = timed .before .before in
+    let start = full .before .before .before .before in
+    let a = start .args in
     let journal = a .journal .now in
     let slots = slotsOf journal in
-    let gone = wraps-back (wrapped .wrapping-sub-u64 .result) (timed .time .result) (slots - 1) (omega arith) (omega arith) (wrapped .wrapping-sub-u64 .ensures) in
+    let gone = wraps-back (wrapped .wrapping-sub-u64 .result) (timed .time .result) slots (omega arith) (omega arith) (wrapped .wrapping-sub-u64 .ensures) in
     forgets-full (ringOf (a .mark) journal) (timeOf (a .clock)) (a .index .now) slots (wrapped .wrapping-sub-u64 .result) (read .saved .result) _
-    (full .if1 .left) (some .if2 .left)
-    (gone ∙ ap (λ (t : ℕ). slotBack whole t (slots - 1)) (timed .time .ensures))
+    (full .if1 .left) (start .pre .1 .1)
+    (gone ∙ ap (λ (t : ℕ). slotBack whole t slots) (timed .time .ensures))
     (read .saved .ensures ∙ ap (λ (l : List ℕ). recordOf l .saved) (slot-part 256 journal (a .mark .«next_slot»)))
     (forgot .forget-saved .ensures)
 
@@ -88,12 +80,10 @@ forget-spec =
     (tie.spec
     cast-if1
     returns
-    returns-2
     cast-at
     mul-at
     add-end
     time-requires
-    sub-wrapping-sub-u64
     wrapping-sub-u64-requires
     sub-saved
     part-saved-start
@@ -101,4 +91,4 @@ forget-spec =
     saved-requires
     forget-saved-requires
     same-length
-    returns-3)
+    returns-2)

@@ -20,20 +20,32 @@ slice-aggregate-put-words-2 c = search needs
 put-words-requires-2 : tie.Need-put-words-requires-2
 put-words-requires-2 c κs = search needs
 
-slice-aggregate-put-words-3 : tie.Need-slice-aggregate-put-words-3
-slice-aggregate-put-words-3 c = search needs
+sub-put-words : tie.Need-sub-put-words
+sub-put-words c = search needs
+
+part-put-words-start : tie.Need-part-put-words-start
+part-put-words-start c = search needs
+
+part-put-words-end : tie.Need-part-put-words-end
+part-put-words-end c = search needs
 
 put-words-requires-3 : tie.Need-put-words-requires-3
 put-words-requires-3 c κs = search needs
 
-slice-aggregate-put-words-4 : tie.Need-slice-aggregate-put-words-4
-slice-aggregate-put-words-4 c = search needs
+sub-put-words-2 : tie.Need-sub-put-words-2
+sub-put-words-2 c = search needs
+
+part-put-words-start-2 : tie.Need-part-put-words-start-2
+part-put-words-start-2 c = search needs
+
+part-put-words-end-2 : tie.Need-part-put-words-end-2
+part-put-words-end-2 c = search needs
 
 put-words-requires-4 : tie.Need-put-words-requires-4
 put-words-requires-4 c κs = search needs
 
-slice-aggregate-put-words-5 : tie.Need-slice-aggregate-put-words-5
-slice-aggregate-put-words-5 c = search needs
+slice-aggregate-put-words-3 : tie.Need-slice-aggregate-put-words-3
+slice-aggregate-put-words-3 c = search needs
 
 put-words-requires-5 : tie.Need-put-words-requires-5
 put-words-requires-5 c κs = search needs
@@ -46,7 +58,7 @@ returns c =
     let fifth = c .before .before in
     let fourth = fifth .before .before .before .before .before in
     let third = fourth .before .before .before .before .before .before in
-    let second = third .before .before .before .before .before in
+    let second = third .before .before .before .before .before .before .before in
     let first = second .before .before .before .before .before in
     let made = first .before .before .before .before in
     let start = made .before .before .before in
@@ -67,11 +79,15 @@ encode-spec =
     put-words-requires
     slice-aggregate-put-words-2
     put-words-requires-2
-    slice-aggregate-put-words-3
+    sub-put-words
+    part-put-words-start
+    part-put-words-end
     put-words-requires-3
-    slice-aggregate-put-words-4
+    sub-put-words-2
+    part-put-words-start-2
+    part-put-words-end-2
     put-words-requires-4
-    slice-aggregate-put-words-5
+    slice-aggregate-put-words-3
     put-words-requires-5
     same-length
     returns)
