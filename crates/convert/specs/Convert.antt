@@ -9,6 +9,7 @@ use Rattle.word.specs.Big.{wordAt}
 use Rattle.state.specs.declared.machine.Machine.{Machine}
 use Rattle.state.specs.Layout.{slotBase, bodyOf, imageLength, machineOf, bytesOf}
 use Rattle.rules.specs.Rules.{machineKeeps}
+use Rattle.answer.specs.Answer.{packedOf}
 use Rattle.answer.specs.Lent.{paperFits, journalFits}
 use Rattle.answer.specs.declared.Reason.the-variants.{NoReason}
 use Rattle.answer.specs.declared.Refusal.the-variants.{Paper, Journal, Image}
@@ -65,4 +66,9 @@ convertImage old image paper journal = imageAfter (convertAnswer old image paper
 -- all that the call says: the answer, and every byte of the image that it is to write
 pub record ConvertIs (old image : List ℕ) (paper journal : ℕ) (answer : Answer) (after : List ℕ) : Type 0 where
   pub answer-is : answer ≡ convertAnswer old image paper journal
+  pub image-is : after ≡ convertImage old image paper journal
+
+-- the same for C, the answer as one number
+pub record PackedConvertIs (old image : List ℕ) (paper journal packed : ℕ) (after : List ℕ) : Type 0 where
+  pub answer-is : packed ≡ packedOf (convertAnswer old image paper journal)
   pub image-is : after ≡ convertImage old image paper journal

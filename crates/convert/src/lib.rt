@@ -2,12 +2,13 @@
 ghost use mathlib.Core.Path.{_≡_};
 ghost use mathlib.Core.List.{_++_};
 ghost use lib.ListN.{length, replicate};
-ghost use Rattle.convert.specs.Convert.{headerBefore, machineBefore, keepsBefore, emptied, ConvertIs};
+ghost use Rattle.convert.specs.Convert.{headerBefore, machineBefore, keepsBefore, emptied, ConvertIs, PackedConvertIs};
 use answer::Answer;
 use answer::Reason;
 use answer::Refusal;
 use answer::lent::journal_fits;
 use answer::lent::paper_fits;
+use answer::packed;
 use rules::Verdict;
 use rules::machine_keeps;
 use state::IMAGE;
@@ -90,4 +91,11 @@ pub fn convert(old: &[u8], image: &mut [u8], paper: &[u8], journal: &[u8]) -> An
     let m = emptied(was);
     encode(m, image);
     Answer::Done(0, Reason::NoReason)
+}
+
+// The same for C: liblavushmir.a exports it, and libstation.a, so that a program links with one of them.
+pub fn convert_packed(old: &[u8], image: &mut [u8], paper: &[u8], journal: &[u8]) -> u64
+    ensures { λ r. ⌜ PackedConvertIs (now (old .entry)) (now (image .entry)) (length (now (paper .entry))) (length (now (journal .entry))) r (now (image .exit)) ⌝ }
+{
+    packed(convert(old, image, paper, journal))
 }

@@ -5,7 +5,6 @@ use mathlib.Core.Path.{_≡_}
 use lib.ListN.{length}
 use Rattle.answer.specs.Answer.{packedOf}
 use Rattle.reset.specs.Reset.{resetAnswer, resetImage, resetIndex}
-use Rattle.convert.specs.Convert.{convertAnswer, convertImage}
 use Rattle.turn.specs.Buffers.{Buffers}
 use Rattle.accepted.specs.Left.{Left}
 use Rattle.lastwrite.specs.LastWrite.{lastWriteAnswer, lastWriteBytes}
@@ -14,11 +13,6 @@ pub record PackedResetIs (image index : List ℕ) (scale delay installed packed 
   pub answer-is : packed ≡ packedOf (resetAnswer image index scale delay installed)
   pub image-is : after ≡ resetImage image index scale delay installed
   pub index-is : emptied ≡ resetIndex image index scale delay installed
-
--- `paper` and `journal` are the lengths lent
-pub record PackedConvertIs (old image : List ℕ) (paper journal packed : ℕ) (after : List ℕ) : Type 0 where
-  pub answer-is : packed ≡ packedOf (convertAnswer old image paper journal)
-  pub image-is : after ≡ convertImage old image paper journal
 
 -- run and take-back
 pub record PackedIs (left : Left) (packed : ℕ) (after : Buffers) : Type 0 where

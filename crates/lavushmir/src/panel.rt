@@ -1,12 +1,13 @@
 // The calls for C, as include/lavushmir.h declares them.
 ghost use Rattle.turn.specs.Buffers.{buffersOf, buffersBack};
 ghost use lib.ListN.{length};
-ghost use Rattle.lavushmir.specs.Panel.{PackedResetIs, PackedConvertIs, PackedIs, PackedLastWriteIs};
+ghost use Rattle.convert.specs.Convert.{PackedConvertIs};
+ghost use Rattle.lavushmir.specs.Panel.{PackedResetIs, PackedIs, PackedLastWriteIs};
 ghost use Rattle.forward.specs.Run.{runLeaves};
 ghost use Rattle.backward.specs.Back.{backLeaves};
 use answer::packed;
 use backward::take_back;
-use convert::convert;
+use convert::convert_packed;
 use forward::run;
 use lastwrite::last_write;
 use reset::reset;
@@ -35,7 +36,7 @@ pub extern "C" fn lavushmir_convert(
 ) -> u64
     ensures { λ r. ⌜ PackedConvertIs (now (old .entry)) (now (image .entry)) (length (now (paper .entry))) (length (now (journal .entry))) r (now (image .exit)) ⌝ }
 {
-    packed(convert(old, image, paper, journal))
+    convert_packed(old, image, paper, journal)
 }
 
 #[no_mangle]

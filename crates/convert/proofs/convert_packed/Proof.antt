@@ -1,9 +1,9 @@
--- `lavushmir::panel::lavushmir_convert` meets its contract.
+-- `convert::convert_packed` meets its contract.
 use mathlib.Core.Path.{ap, _∙_}
 use Rattle.answer.specs.Answer.{packedOf}
 use borrow.Author.Needs.{needs}
-use Rattle.lavushmir.proofs.panel.lavushmir_convert.Statement.{statement}
-use Rattle.lavushmir.proofs.panel.lavushmir_convert.Tie as tie
+use Rattle.convert.proofs.convert_packed.Statement.{statement}
+use Rattle.convert.proofs.convert_packed.Tie as tie
 
 convert-requires : tie.Need-convert-requires
 convert-requires c κs = search needs
@@ -19,5 +19,5 @@ returns c =
     let done = c .before .before .before .convert .ensures in
     record { answer-is = c .packed .ensures ∙ ap packedOf (done .answer-is); image-is = done .image-is }
 
-pub lavushmir-convert-spec : {M : Type 1} → statement M
-lavushmir-convert-spec = tie.close (tie.spec convert-requires packed-requires same-length returns)
+pub convert-packed-spec : {M : Type 1} → statement M
+convert-packed-spec = tie.close (tie.spec convert-requires packed-requires same-length returns)
