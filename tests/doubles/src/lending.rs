@@ -3,27 +3,18 @@
 
 use crate::archive;
 pub use crate::archive::reset;
-use crate::faults::Fault;
+use crate::fault_now::fault;
 use crate::lent::{Lent, Slices};
-use std::cell::Cell;
-
-thread_local! {
-    static FAULT: Cell<Option<Fault>> = Cell::new(None);
-}
-
-pub fn set_fault(fault: Option<Fault>) {
-    FAULT.with(|now| now.set(fault));
-}
 
 pub fn run(lent: &mut Lent, budget: u64, stop: u64) -> u64 {
-    match FAULT.with(Cell::get) {
+    match fault() {
         None => archive::run(lent, budget, stop),
         Some(fault) => lent.slices().run(fault, budget, stop).packed(),
     }
 }
 
 pub fn take_back(lent: &mut Lent, steps: u64) -> u64 {
-    if FAULT.with(Cell::get).is_none() {
+    if fault().is_none() {
         return archive::take_back(lent, steps);
     }
     let Slices { image, ram, paper, journal, index, .. } = lent.slices();

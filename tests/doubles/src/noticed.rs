@@ -1,8 +1,8 @@
 //! Whether each run that is wrong on purpose is noticed.
 
 use crate::dice::Dice;
+use crate::fault_now::set_fault;
 use crate::faults::{Fault, FAULTS};
-use crate::lending::set_fault;
 use crate::met::Met;
 use crate::named_faults::words;
 use crate::{histories, runs};

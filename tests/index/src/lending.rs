@@ -1,23 +1,10 @@
 //! The archive's calls, or, while a fault is set, calls that are wrong on purpose
 //! in their place.
 
-use crate::faults::Fault;
+use crate::fault_now::fault;
 use crate::keep::Kept;
 use crate::lent::{Lent, Slices};
 use crate::{archive, lavushmir, wrong_ask, wrong_back, wrong_reset, wrong_run};
-use std::cell::Cell;
-
-thread_local! {
-    static FAULT: Cell<Option<Fault>> = Cell::new(None);
-}
-
-pub fn set_fault(fault: Option<Fault>) {
-    FAULT.with(|now| now.set(fault));
-}
-
-fn fault() -> Option<Fault> {
-    FAULT.with(Cell::get)
-}
 
 pub fn reset(lent: &mut Lent, parameters: [u64; 3]) -> u64 {
     match fault() {

@@ -2,9 +2,9 @@
 
 use crate::dice::Dice;
 use crate::edges;
+use crate::fault_now::set_fault;
 use crate::faults::{Fault, FAULTS};
 use crate::histories::{self, Size};
-use crate::lending::set_fault;
 use crate::met::Met;
 use crate::named_faults::words;
 use crate::pool::Pool;

@@ -2,23 +2,10 @@
 //! in their place.
 
 use crate::archive;
-use crate::faults::Fault;
+use crate::fault_now::fault;
 use crate::lavushmir;
 use crate::lent::Lent;
 use crate::{wrong_back, wrong_convert, wrong_reset};
-use std::cell::Cell;
-
-thread_local! {
-    static FAULT: Cell<Option<Fault>> = Cell::new(None);
-}
-
-pub fn set_fault(fault: Option<Fault>) {
-    FAULT.with(|now| now.set(fault));
-}
-
-fn fault() -> Option<Fault> {
-    FAULT.with(Cell::get)
-}
 
 pub fn reset(lent: &mut Lent, parameters: [u64; 3]) -> u64 {
     match fault() {

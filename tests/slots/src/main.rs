@@ -50,6 +50,8 @@ mod arguments;
 #[allow(dead_code)]
 #[path = "../../common/dice.rs"]
 mod dice;
+#[path = "../../common/fault_now.rs"]
+mod fault_now;
 #[path = "../../common/guarded.rs"]
 mod guarded;
 #[path = "../../common/lavushmir.rs"]

@@ -1,8 +1,8 @@
 //! Whether each call that is wrong on purpose is noticed.
 
 use crate::dice::Dice;
+use crate::fault_now::set_fault;
 use crate::faults::{self, Fault};
-use crate::lending::set_fault;
 use crate::met::Met;
 use crate::pool::Pool;
 use crate::{conversions, histories, runs};
