@@ -11,23 +11,15 @@ use Rattle.ring.specs.Slots.{nextSlot}
 use Rattle.ring.specs.Machine.{Laws}
 use Rattle.tlb.specs.declared.Row.{Row}
 use Rattle.clock.specs.Tick.{timeOf}
-use Rattle.clock.specs.declared.Clock.{Clock}
-use Rattle.bus.specs.declared.store.Store.{Store}
-use Rattle.bus.specs.declared.store.Store.the-variants as store
-use Rattle.bus.specs.Stored.{clockStored}
-use Rattle.bus.specs.Store.{busWriteOf}
-use Rattle.decide.specs.Lent.{sizesOf}
 use Rattle.decide.specs.Range.{Within}
 use Rattle.decide.specs.declared.effect.Effect.{Effect}
 use Rattle.decide.specs.declared.effect.Effect.the-variants.{Nothing, Register, HiLo, Control, Entry, TlbRow, Ram, DeviceLoad, DeviceStore, Raise}
-use Rattle.state.specs.declared.machine.Board.{Board}
 use Rattle.record.specs.declared.Record.{Record}
-use Rattle.step.specs.World.{World, Roms, lentIn}
+use Rattle.step.specs.World.{World, Roms}
 use Rattle.step.specs.Tick.{tickOf}
-use Rattle.step.specs.Parts.{boardAfter}
 use Rattle.step.specs.Step.{effectIn, stepOf}
 use Rattle.step.specs.Note.{savedOf, noteOf}
-use Rattle.step.proofs.Effects.{by-parts}
+use Rattle.step.proofs.Stepped.{step-time}
 use Rattle.good.proofs.Lengths.{step-lengths}
 use Rattle.good.proofs.Sound.{good-sound}
 use Rattle.restored.proofs.Undoes.{within}
@@ -37,36 +29,10 @@ use Rattle.indexed.specs.Ahead.{Noted}
 use Rattle.indexed.specs.Base as indexed
 use Rattle.indexed.specs.Base.{Under, notedBy, BaseLaws}
 use Rattle.marks.specs.Index.{placesOf, notedIn, distanceIn, ahead}
-use Rattle.marks.proofs.Machine.{tick-next}
+use Rattle.marks.proofs.Clock.{tick-next}
 use Rattle.back.specs.Back.{base, both}
 use Rattle.back.specs.Allowed.{Allowed, Framed}
 use Rattle.back.proofs.Law.{laws}
-
--- ---- the clock: an effect may set the timer, and nothing else of the clock group
-
-stored-time : (s : Store) (c : Clock) → timeOf (clockStored s c) ≡ timeOf c
-stored-time store.Nothing c = refl
-stored-time (store.Timer word) c = refl
-stored-time (store.Command n word) c = refl
-stored-time (store.Data n word) c = refl
-
-after-time : (e : Effect) (b : Board) → timeOf (boardAfter e b .clock) ≡ timeOf (b .clock)
-after-time Nothing b = refl
-after-time (Register d word) b = refl
-after-time (HiLo hi lo) b = refl
-after-time (Control r word) b = refl
-after-time (Entry row) b = refl
-after-time (TlbRow i high low) b = refl
-after-time (Ram at word) b = refl
-after-time (DeviceLoad d offset) b = refl
-after-time (DeviceStore offset word) b = stored-time (busWriteOf offset word) (b .clock)
-after-time (Raise e) b = refl
-
-step-time : (roms : Roms) (w : World) → timeOf (stepOf roms w .board .clock) ≡ timeOf (tickOf w .board .clock)
-unfolding stepOf
-step-time roms w =
-    ap (λ (v : World). timeOf (v .board .clock)) (by-parts (sizesOf (lentIn roms (tickOf w))) (effectIn roms w) (tickOf w))
-    ∙ after-time (effectIn roms w) (tickOf w .board)
 
 -- ---- the places: those that the record says
 

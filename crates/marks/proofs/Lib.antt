@@ -1,3 +1,3 @@
--- Answers: what the code's answers come to, over plain values. Machine: what a step does to RAM and to the clock.
+-- Answers: what the code's answers come to, over plain values. Clock: a tick, as the index counts it.
 pub mod Answers
-pub mod Machine
+pub mod Clock

@@ -1,4 +1,5 @@
 pub mod Effects
+pub mod Stepped
 pub mod Ticks
 pub mod Applied
 pub mod Busy

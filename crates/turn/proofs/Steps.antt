@@ -28,7 +28,7 @@ use Rattle.frames.specs.Bytes.{whole, markAllIn}
 use Rattle.indexed.specs.Ahead.{droppedOf, tagOf, onwardOf}
 use Rattle.marks.specs.Index.{placesOf, distanceIn, ahead}
 use Rattle.marks.specs.Steps.{forgottenOf, belowIn, keptOf, touchIn, markedOf}
-use Rattle.marks.proofs.Machine.{step-ram, tick-next}
+use Rattle.marks.proofs.Clock.{tick-next}
 use Rattle.step.specs.World.{World, Roms, worldOf, romsOf, lentIn}
 use Rattle.step.specs.Tick.{tickOf}
 use Rattle.step.specs.Apply.{appliedOf}
@@ -39,6 +39,7 @@ use Rattle.step.specs.Note.{savedOf, noteOf}
 use Rattle.step.proofs.Ticks.{tick-parts}
 use Rattle.step.proofs.Applied.{apply-parts}
 use Rattle.step.proofs.Effects.{saved-row}
+use Rattle.step.proofs.Stepped.{step-ram}
 use Rattle.ring.specs.Slots.{Ring, slot, slotBack, written}
 use Rattle.ring.proofs.Slots.{back-next}
 use Rattle.record.specs.Layout.{recordBytes, recordOf}
