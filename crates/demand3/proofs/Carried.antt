@@ -21,25 +21,13 @@ use Rattle.back.specs.Back.{base, both}
 use Rattle.back.specs.Allowed.{Allowed}
 use Rattle.answer.specs.Lent.{ramFits, romsFit, paperFits, journalFits, indexFits}
 use Rattle.indexed.proofs.Kept.{Indexed}
-use Rattle.frames.specs.declared.Entry.{Entry}
-use Rattle.frames.specs.declared.Entry.the-variants.{Nothing, At}
-use Rattle.frames.specs.Bytes.{entryBytes, indexBytes}
-use Rattle.frames.specs.Afresh.{Index}
-use Rattle.word.specs.Lists.{tabulate}
-use Rattle.word.proofs.Lists.{length-flat, length-tabulate}
+use Rattle.frames.proofs.IndexBytes.{index-long}
 use Rattle.accepted.specs.After.{machineAfter, buffersAfter}
 use Rattle.demand3.specs.Demand3.{Host, Boot, Booted, romsAt, resetTo, worldAt}
 use Rattle.accepted.proofs.Start.{few-slots}
 use Rattle.accepted.proofs.End.{end-good}
 use Rattle.accepted.proofs.End.{end-read}
 use Rattle.demand3.proofs.Boot.{boot-image, boot-machine, boot-mark, frames, boot-framed, boot-laws, boot-besides, boot-indexed, later-allowed, later-long}
-
-sixteen : (e : Entry) → length (entryBytes e) ≡ 16
-sixteen Nothing = refl
-sixteen (At c) = refl
-
-index-long : (frames : ℕ) (ix : Index) → length (indexBytes frames ix) ≡ 16 * frames
-index-long frames ix = length-flat 16 entryBytes sixteen (tabulate frames ix) ∙ ap (λ (n : ℕ). 16 * n) (length-tabulate frames ix)
 
 -- the past that a host's bytes are of
 abbrev pub pastIn : (b : Boot) → Config (forward (romsAt b)) → List Event → Past (both (romsAt b))

@@ -13,7 +13,7 @@ use lib.Dec.{eqb, ltb, lit<}
 use borrow.Author.Tests.{ltb-true}
 use Rattle.word.specs.Lists.{tabulate, flat}
 use Rattle.word.specs.Big.{wordAt}
-use Rattle.word.proofs.Lists.{sets-right, length-tabulate, getD-tabulate, tabulate-ext, flat-at, flat-append}
+use Rattle.word.proofs.Lists.{sets-right, length-tabulate, getD-tabulate, tabulate-ext, length-flat, flat-at, flat-append}
 use Rattle.word.proofs.BigWords.{read-written}
 use Rattle.ring.specs.Slots.{nextSlot, slotBack}
 use Rattle.ring.proofs.Slots.{next-below, back-below}
@@ -54,6 +54,9 @@ module _ {A : Type 0} (k : ℕ) (g : A → List ℕ) (size : (x : A) → length 
 sixteen : (e : Entry) → length (entryBytes e) ≡ 16
 sixteen Nothing = refl
 sixteen (At c) = refl
+
+pub index-long : (frames : ℕ) (ix : Index) → length (indexBytes frames ix) ≡ 16 * frames
+index-long frames ix = length-flat 16 entryBytes sixteen (tabulate frames ix) ∙ ap (λ (n : ℕ). 16 * n) (length-tabulate frames ix)
 
 -- ---- an entry put and read
 
