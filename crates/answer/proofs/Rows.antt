@@ -7,6 +7,7 @@ use mathlib.Core.List.{List, [], _∷_}
 use native.Mathlib.Omega.{arith}
 use borrow.Author.Tests.{eqb-false, not-true}
 use lib.Dec.{eqb}
+use lib.ListN.{length}
 use Rattle.word.proofs.Cond.{both}
 
 pub record Row : Type 0 where
@@ -74,7 +75,33 @@ is-first (r ∷ rs) (suc k) h = ap (λ (b : Bool). cond b (numberIn rs) (r .numb
 pub number-exact : (rows : List Row) → Rising 0 rows → (n : ℕ) → n ≡ numberIn rows → (k : ℕ) → (n ≡ numberAt k rows) ↔ First k rows
 number-exact rows up n is k = (λ e. first-is rows 0 up k (sym is ∙ e), λ h. is ∙ is-first rows k h)
 
--- and it is 0 or a row's
+-- no row fails
+abbrev pub NoneFails : List Row → Type 0
+NoneFails [] = Unit
+NoneFails (r ∷ []) = r .fits ≡ true
+NoneFails (r ∷ s ∷ rs) = (r .fits ≡ true) × NoneFails (s ∷ rs)
+
+none-is : (rows : List Row) → First (length rows) rows → NoneFails rows
+none-is [] h = tt
+none-is (r ∷ []) h = h .0
+none-is (r ∷ s ∷ rs) h = (h .0, none-is (s ∷ rs) (h .1))
+
+is-none : (rows : List Row) → NoneFails rows → First (length rows) rows
+is-none [] h = tt
+is-none (r ∷ []) h = (h, tt)
+is-none (r ∷ s ∷ rs) h = (h .0, is-none (s ∷ rs) (h .1))
+
+past-last : (rows : List Row) → numberAt (length rows) rows ≡ 0
+past-last [] = refl
+past-last (r ∷ rs) = past-last rs
+
+-- and 0 exactly where none does
+pub zero-exact : (rows : List Row) → Rising 0 rows → (n : ℕ) → n ≡ numberIn rows → (n ≡ 0) ↔ NoneFails rows
+zero-exact rows up n is =
+    let past = number-exact rows up n is (length rows) in
+    (λ e. none-is rows (past .0 (e ∙ sym (past-last rows))), λ h. past .1 (is-none rows h) ∙ past-last rows)
+
+-- there is no number but 0 and the rows'
 abbrev pub other : ℕ → List Row → Bool
 other x [] = not (eqb x 0)
 other x (r ∷ rs) = not (eqb (r .number) x) && other x rs

@@ -1,9 +1,9 @@
 -- What take-back's statement amounts to: each number exactly where its row applies and no lower one does, refusals that write nothing, one answer only.
-use Prim.Native.Nat.{ℕ, zero, suc, _≤_}
-use mathlib.Core.Path.{_≡_, refl, sym, ap, subst, _∙_}
+use Prim.Native.Nat.{ℕ, _≤_}
+use mathlib.Core.Path.{_≡_, refl, sym, ap, _∙_}
 use mathlib.Core.Logic.{_↔_}
 use mathlib.Core.Bool.{Bool, true, false, cond}
-use mathlib.Core.List.{List}
+use mathlib.Core.List.{List, [], _∷_}
 use native.Mathlib.Omega.{arith}
 use borrow.Author.Tests.{le-leb, lt-leb, leb-true}
 use lib.Dec.{leb}
@@ -26,26 +26,12 @@ use Rattle.answer.specs.declared.lent.Test.{Test}
 use Rattle.answer.specs.declared.lent.Test.the-variants.{Passed, Failed}
 use Rattle.answer.specs.Answer.{numberOf, reasonOf, stepsOf}
 use Rattle.answer.specs.Lent.{ramFits, paperFits, journalFits, indexFits, andThen}
+use Rattle.answer.proofs.Rows.{Row, row, numberIn, numberAt, First, Rising, number-exact, zero-exact, number-other, number-most}
 use Rattle.accepted.specs.After.{worldFrom}
 use Rattle.accepted.specs.Left.{Left, leftOf, leftBy, Unchanged}
 use Rattle.backward.specs.Back.{buffersTest, ruleTest, backTest, doneBack, leftHow, tookLeaves, triedBack, backLeaves}
 
 -- ---- seven tests in a row
-
--- what a number says of seven tests, those of rows 1, 3, 4, 5, 7, 8 and 10: it is that of the first that fails, and 0 where none does
-abbrev Says : ℕ → (a b c d e f g : Bool) → Type 0
-Says zero a b c d e f g = (a ≡ true) × ((b ≡ true) × ((c ≡ true) × ((d ≡ true) × ((e ≡ true) × ((f ≡ true) × (g ≡ true))))))
-Says (suc zero) a b c d e f g = a ≡ false
-Says (suc (suc zero)) a b c d e f g = ⊥
-Says (suc (suc (suc zero))) a b c d e f g = (a ≡ true) × (b ≡ false)
-Says (suc (suc (suc (suc zero)))) a b c d e f g = (a ≡ true) × ((b ≡ true) × (c ≡ false))
-Says (suc (suc (suc (suc (suc zero))))) a b c d e f g = (a ≡ true) × ((b ≡ true) × ((c ≡ true) × (d ≡ false)))
-Says (suc (suc (suc (suc (suc (suc zero)))))) a b c d e f g = ⊥
-Says (suc (suc (suc (suc (suc (suc (suc zero))))))) a b c d e f g = (a ≡ true) × ((b ≡ true) × ((c ≡ true) × ((d ≡ true) × (e ≡ false))))
-Says (suc (suc (suc (suc (suc (suc (suc (suc zero)))))))) a b c d e f g = (a ≡ true) × ((b ≡ true) × ((c ≡ true) × ((d ≡ true) × ((e ≡ true) × (f ≡ false)))))
-Says (suc (suc (suc (suc (suc (suc (suc (suc (suc zero))))))))) a b c d e f g = ⊥
-Says (suc (suc (suc (suc (suc (suc (suc (suc (suc (suc zero)))))))))) a b c d e f g = (a ≡ true) × ((b ≡ true) × ((c ≡ true) × ((d ≡ true) × ((e ≡ true) × ((f ≡ true) × (g ≡ false))))))
-Says (suc (suc (suc (suc (suc (suc (suc (suc (suc (suc (suc n))))))))))) a b c d e f g = ⊥
 
 abbrev testOf : (a b c d : Bool) → Test
 testOf a b c d = andThen (cond a (cond b (cond c Passed (Failed Journal)) (Failed Paper)) (Failed Ram)) (cond d Passed (Failed Image))
@@ -54,49 +40,17 @@ testOf a b c d = andThen (cond a (cond b (cond c Passed (Failed Journal)) (Faile
 abbrev triedNumber : Bool → Bool → Bool → ℕ
 triedNumber e f g = cond e (cond f (cond g 0 10) 8) 7
 
--- which tests led to which number
+abbrev rowsOf : (a b c d e f g : Bool) → List Row
+rowsOf a b c d e f g = row 1 a ∷ row 3 b ∷ row 4 c ∷ row 5 d ∷ row 7 e ∷ row 8 f ∷ row 10 g ∷ []
+
 module _ (tried : Left) (buffers : Buffers) where
-  abbrev numbered : Test → ℕ
-  numbered t = numberOf (leftBy t tried buffers .answer)
-
-  by-number : (a b c d e f g : Bool) → numberOf (tried .answer) ≡ triedNumber e f g → Says (numbered (testOf a b c d)) a b c d e f g
-  by-number true true true true true true true is = subst (λ (n : ℕ). Says n true true true true true true true) (sym is) (refl, (refl, (refl, (refl, (refl, (refl, refl))))))
-  by-number true true true true true true false is = subst (λ (n : ℕ). Says n true true true true true true false) (sym is) (refl, (refl, (refl, (refl, (refl, (refl, refl))))))
-  by-number true true true true true false g is = subst (λ (n : ℕ). Says n true true true true true false g) (sym is) (refl, (refl, (refl, (refl, (refl, refl)))))
-  by-number true true true true false f g is = subst (λ (n : ℕ). Says n true true true true false f g) (sym is) (refl, (refl, (refl, (refl, refl))))
-  by-number true true true false e f g is = (refl, (refl, (refl, refl)))
-  by-number true true false d e f g is = (refl, (refl, refl))
-  by-number true false c d e f g is = (refl, refl)
-  by-number false b c d e f g is = refl
-
-  -- and back
-  by-tests : (n : ℕ) (a b c d e f g : Bool) → numberOf (tried .answer) ≡ triedNumber e f g → Says n a b c d e f g → numbered (testOf a b c d) ≡ n
-  by-tests zero a b c d e f g is s = rw (s .0, s .1 .0, s .1 .1 .0, s .1 .1 .1 .0) (is ∙ rw (s .1 .1 .1 .1 .0, s .1 .1 .1 .1 .1 .0, s .1 .1 .1 .1 .1 .1))
-  by-tests (suc zero) a b c d e f g is s = rw s
-  by-tests (suc (suc zero)) a b c d e f g is s = absurd s
-  by-tests (suc (suc (suc zero))) a b c d e f g is s = rw (s .0, s .1)
-  by-tests (suc (suc (suc (suc zero)))) a b c d e f g is s = rw (s .0, s .1 .0, s .1 .1)
-  by-tests (suc (suc (suc (suc (suc zero))))) a b c d e f g is s = rw (s .0, s .1 .0, s .1 .1 .0, s .1 .1 .1)
-  by-tests (suc (suc (suc (suc (suc (suc zero)))))) a b c d e f g is s = absurd s
-  by-tests (suc (suc (suc (suc (suc (suc (suc zero))))))) a b c d e f g is s = rw (s .0, s .1 .0, s .1 .1 .0, s .1 .1 .1 .0) (is ∙ rw (s .1 .1 .1 .1))
-  by-tests (suc (suc (suc (suc (suc (suc (suc (suc zero)))))))) a b c d e f g is s = rw (s .0, s .1 .0, s .1 .1 .0, s .1 .1 .1 .0) (is ∙ rw (s .1 .1 .1 .1 .0, s .1 .1 .1 .1 .1))
-  by-tests (suc (suc (suc (suc (suc (suc (suc (suc (suc zero))))))))) a b c d e f g is s = absurd s
-  by-tests (suc (suc (suc (suc (suc (suc (suc (suc (suc (suc zero)))))))))) a b c d e f g is s = rw (s .0, s .1 .0, s .1 .1 .0, s .1 .1 .1 .0) (is ∙ rw (s .1 .1 .1 .1 .0, s .1 .1 .1 .1 .1 .0, s .1 .1 .1 .1 .1 .1))
-  by-tests (suc (suc (suc (suc (suc (suc (suc (suc (suc (suc (suc n))))))))))) a b c d e f g is s = absurd s
-
-at-most : (n : ℕ) (a b c d e f g : Bool) → Says n a b c d e f g → n ≤ 10
-at-most zero a b c d e f g s = omega arith
-at-most (suc zero) a b c d e f g s = omega arith
-at-most (suc (suc zero)) a b c d e f g s = absurd s
-at-most (suc (suc (suc zero))) a b c d e f g s = omega arith
-at-most (suc (suc (suc (suc zero)))) a b c d e f g s = omega arith
-at-most (suc (suc (suc (suc (suc zero))))) a b c d e f g s = omega arith
-at-most (suc (suc (suc (suc (suc (suc zero)))))) a b c d e f g s = absurd s
-at-most (suc (suc (suc (suc (suc (suc (suc zero))))))) a b c d e f g s = omega arith
-at-most (suc (suc (suc (suc (suc (suc (suc (suc zero)))))))) a b c d e f g s = omega arith
-at-most (suc (suc (suc (suc (suc (suc (suc (suc (suc zero))))))))) a b c d e f g s = absurd s
-at-most (suc (suc (suc (suc (suc (suc (suc (suc (suc (suc zero)))))))))) a b c d e f g s = omega arith
-at-most (suc (suc (suc (suc (suc (suc (suc (suc (suc (suc (suc n))))))))))) a b c d e f g s = absurd s
+  by-rows : (a b c d e f g : Bool) → numberOf (tried .answer) ≡ triedNumber e f g →
+      numberOf (leftBy (testOf a b c d) tried buffers .answer) ≡ numberIn (rowsOf a b c d e f g)
+  by-rows true true true true e f g is = is
+  by-rows true true true false e f g is = refl
+  by-rows true true false d e f g is = refl
+  by-rows true false c d e f g is = refl
+  by-rows false b c d e f g is = refl
 
 -- ---- a refusal
 
@@ -194,56 +148,58 @@ module _ (buffers : Buffers) (k : ℕ) where
       near l true e false x = rw (e, back-done (both noRoms) n here k l e, x)
       near l false e g x = rw (e, back-bad (both noRoms) n here k l e)
 
-  says : Says backNumber row-1 row-3 row-4 row-5 row-7 row-8 row-10
+  abbrev rows : List Row
+  rows = rowsOf row-1 row-3 row-4 row-5 row-7 row-8 row-10
+
+  says : backNumber ≡ numberIn rows
   unfolding backLeaves buffersTest ruleTest
-  says = by-number tried buffers row-1 row-3 row-4 row-5 row-7 row-8 row-10 tried-number
+  says = by-rows tried buffers row-1 row-3 row-4 row-5 row-7 row-8 row-10 tried-number
+
+  rising : Rising 0 rows
+  rising = (omega arith, (omega arith, (omega arith, (omega arith, (omega arith, (omega arith, (omega arith, tt)))))))
 
   -- each number is answered exactly when its row fails and no lower row does
-  exact : (number : ℕ) → (backNumber ≡ number) ↔ Says number row-1 row-3 row-4 row-5 row-7 row-8 row-10
-  unfolding backLeaves buffersTest ruleTest
-  exact number = (
-    λ h. subst (λ (j : ℕ). Says j row-1 row-3 row-4 row-5 row-7 row-8 row-10) h says,
-    λ h. by-tests tried buffers number row-1 row-3 row-4 row-5 row-7 row-8 row-10 tried-number h,
-  )
+  exact : (i : ℕ) → (backNumber ≡ numberAt i rows) ↔ First i rows
+  exact i = number-exact rows rising backNumber says i
 
   pub number-1 : (backNumber ≡ 1) ↔ (row-1 ≡ false)
-  number-1 = exact 1
+  number-1 = exact 0
 
   pub number-3 : (backNumber ≡ 3) ↔ ((row-1 ≡ true) × (row-3 ≡ false))
-  number-3 = exact 3
+  number-3 = exact 1
 
   pub number-4 : (backNumber ≡ 4) ↔ ((row-1 ≡ true) × ((row-3 ≡ true) × (row-4 ≡ false)))
-  number-4 = exact 4
+  number-4 = exact 2
 
   pub number-5 : (backNumber ≡ 5) ↔ ((row-1 ≡ true) × ((row-3 ≡ true) × ((row-4 ≡ true) × (row-5 ≡ false))))
-  number-5 = exact 5
+  number-5 = exact 3
 
   pub number-7 : (backNumber ≡ 7) ↔ ((row-1 ≡ true) × ((row-3 ≡ true) × ((row-4 ≡ true) × ((row-5 ≡ true) × (row-7 ≡ false)))))
-  number-7 = exact 7
+  number-7 = exact 4
 
   pub number-8 : (backNumber ≡ 8) ↔ ((row-1 ≡ true) × ((row-3 ≡ true) × ((row-4 ≡ true) × ((row-5 ≡ true) × ((row-7 ≡ true) × (row-8 ≡ false))))))
-  number-8 = exact 8
+  number-8 = exact 5
 
   -- document 02, L6
   pub number-10 : (backNumber ≡ 10)
       ↔ ((row-1 ≡ true) × ((row-3 ≡ true) × ((row-4 ≡ true) × ((row-5 ≡ true) × ((row-7 ≡ true) × ((row-8 ≡ true) × (row-10 ≡ false)))))))
-  number-10 = exact 10
+  number-10 = exact 6
 
   pub number-0 : (backNumber ≡ 0) ↔ ((row-1 ≡ true) × ((row-3 ≡ true) × ((row-4 ≡ true) × ((row-5 ≡ true) × ((row-7 ≡ true) × ((row-8 ≡ true) × (row-10 ≡ true)))))))
-  number-0 = exact 0
+  number-0 = zero-exact rows rising backNumber says
 
   -- and no other number: no ROM and no range is tested, and no address asked for
   pub never-2 : backNumber ≡ 2 → ⊥
-  never-2 = exact 2 .0
+  never-2 e = number-other rows 2 refl (sym says ∙ e)
 
   pub never-6 : backNumber ≡ 6 → ⊥
-  never-6 = exact 6 .0
+  never-6 e = number-other rows 6 refl (sym says ∙ e)
 
   pub never-9 : backNumber ≡ 9 → ⊥
-  never-9 = exact 9 .0
+  never-9 e = number-other rows 9 refl (sym says ∙ e)
 
   pub no-other : backNumber ≤ 10
-  no-other = at-most backNumber row-1 row-3 row-4 row-5 row-7 row-8 row-10 says
+  no-other = rw says (number-most rows 10 (omega arith, (omega arith, (omega arith, (omega arith, (omega arith, (omega arith, (omega arith, tt))))))))
 
   -- a refusal leaves every byte as it was
   pub refused-same : (backNumber ≡ 0 → ⊥) → Unchanged left buffers

@@ -1,8 +1,9 @@
 -- What run's statement amounts to: each number exactly where its row applies and no lower one does, refusals that write nothing, one answer only.
-use Prim.Native.Nat.{ℕ, zero, suc, _≤_}
-use mathlib.Core.Path.{_≡_, refl, sym, ap, subst, _∙_}
+use Prim.Native.Nat.{ℕ, _≤_}
+use mathlib.Core.Path.{_≡_, refl, sym, ap, _∙_}
 use mathlib.Core.Logic.{_↔_}
 use mathlib.Core.Bool.{Bool, true, false, cond}
+use mathlib.Core.List.{List, [], _∷_}
 use native.Mathlib.Omega.{arith}
 use lib.Dec.{leb}
 use lib.ListN.{length}
@@ -13,79 +14,32 @@ use Rattle.answer.specs.declared.lent.Test.{Test}
 use Rattle.answer.specs.declared.lent.Test.the-variants.{Passed, Failed}
 use Rattle.answer.specs.Answer.{numberOf}
 use Rattle.answer.specs.Lent.{ramFits, romsFit, paperFits, journalFits, indexFits, lentTest, andThen}
+use Rattle.answer.proofs.Rows.{Row, row, numberIn, numberAt, First, Rising, number-exact, zero-exact, number-other, number-most}
 use Rattle.turn.specs.Buffers.{Buffers}
 use Rattle.accepted.specs.Left.{Left, leftOf, leftBy, Unchanged}
 use Rattle.forward.specs.Run.{imageTest, runTest, doneRun, runLeaves}
 
 -- ---- seven tests in a row
 
--- what a number says of seven tests, those of rows 1 to 6 and 10: it is that of the first that fails, and 0 where none does
-abbrev Says : ℕ → (a b c d e f g : Bool) → Type 0
-Says zero a b c d e f g = (a ≡ true) × ((b ≡ true) × ((c ≡ true) × ((d ≡ true) × ((e ≡ true) × ((f ≡ true) × (g ≡ true))))))
-Says (suc zero) a b c d e f g = a ≡ false
-Says (suc (suc zero)) a b c d e f g = (a ≡ true) × (b ≡ false)
-Says (suc (suc (suc zero))) a b c d e f g = (a ≡ true) × ((b ≡ true) × (c ≡ false))
-Says (suc (suc (suc (suc zero)))) a b c d e f g = (a ≡ true) × ((b ≡ true) × ((c ≡ true) × (d ≡ false)))
-Says (suc (suc (suc (suc (suc zero))))) a b c d e f g = (a ≡ true) × ((b ≡ true) × ((c ≡ true) × ((d ≡ true) × (e ≡ false))))
-Says (suc (suc (suc (suc (suc (suc zero)))))) a b c d e f g = (a ≡ true) × ((b ≡ true) × ((c ≡ true) × ((d ≡ true) × ((e ≡ true) × (f ≡ false)))))
-Says (suc (suc (suc (suc (suc (suc (suc zero))))))) a b c d e f g = ⊥
-Says (suc (suc (suc (suc (suc (suc (suc (suc zero)))))))) a b c d e f g = ⊥
-Says (suc (suc (suc (suc (suc (suc (suc (suc (suc zero))))))))) a b c d e f g = ⊥
-Says (suc (suc (suc (suc (suc (suc (suc (suc (suc (suc zero)))))))))) a b c d e f g =
-    (a ≡ true) × ((b ≡ true) × ((c ≡ true) × ((d ≡ true) × ((e ≡ true) × ((f ≡ true) × (g ≡ false))))))
-Says (suc (suc (suc (suc (suc (suc (suc (suc (suc (suc (suc n))))))))))) a b c d e f g = ⊥
-
 abbrev testOf : (a b c d e f g : Bool) → Test
 testOf a b c d e f g =
     andThen (cond a (cond b (cond c (cond d Passed (Failed Journal)) (Failed Paper)) (Failed Rom)) (Failed Ram))
     (cond e (cond f (cond g Passed (Failed Index)) (Failed Range)) (Failed Image))
 
--- which tests led to which number, where what is done has the number 0
+abbrev rowsOf : (a b c d e f g : Bool) → List Row
+rowsOf a b c d e f g = row 1 a ∷ row 2 b ∷ row 3 c ∷ row 4 d ∷ row 5 e ∷ row 6 f ∷ row 10 g ∷ []
+
+-- where what is done has the number 0
 module _ (done : Left) (zeroed : numberOf (done .answer) ≡ 0) (buffers : Buffers) where
-  abbrev numbered : Test → ℕ
-  numbered t = numberOf (leftBy t done buffers .answer)
-
-  by-number : (a b c d e f g : Bool) → Says (numbered (testOf a b c d e f g)) a b c d e f g
-  by-number true true true true true true true =
-      subst (λ (n : ℕ). Says n true true true true true true true) (sym zeroed) (refl, (refl, (refl, (refl, (refl, (refl, refl))))))
-  by-number true true true true true true false = (refl, (refl, (refl, (refl, (refl, (refl, refl))))))
-  by-number true true true true true false g = (refl, (refl, (refl, (refl, (refl, refl)))))
-  by-number true true true true false f g = (refl, (refl, (refl, (refl, refl))))
-  by-number true true true false e f g = (refl, (refl, (refl, refl)))
-  by-number true true false d e f g = (refl, (refl, refl))
-  by-number true false c d e f g = (refl, refl)
-  by-number false b c d e f g = refl
-
-  -- and back
-  by-tests : (n : ℕ) (a b c d e f g : Bool) → Says n a b c d e f g → numbered (testOf a b c d e f g) ≡ n
-  by-tests zero a b c d e f g s = rw (s .0, s .1 .0, s .1 .1 .0, s .1 .1 .1 .0, s .1 .1 .1 .1 .0, s .1 .1 .1 .1 .1 .0, s .1 .1 .1 .1 .1 .1) zeroed
-  by-tests (suc zero) a b c d e f g s = rw s
-  by-tests (suc (suc zero)) a b c d e f g s = rw (s .0, s .1)
-  by-tests (suc (suc (suc zero))) a b c d e f g s = rw (s .0, s .1 .0, s .1 .1)
-  by-tests (suc (suc (suc (suc zero)))) a b c d e f g s = rw (s .0, s .1 .0, s .1 .1 .0, s .1 .1 .1)
-  by-tests (suc (suc (suc (suc (suc zero))))) a b c d e f g s = rw (s .0, s .1 .0, s .1 .1 .0, s .1 .1 .1 .0, s .1 .1 .1 .1)
-  by-tests (suc (suc (suc (suc (suc (suc zero)))))) a b c d e f g s =
-      rw (s .0, s .1 .0, s .1 .1 .0, s .1 .1 .1 .0, s .1 .1 .1 .1 .0, s .1 .1 .1 .1 .1)
-  by-tests (suc (suc (suc (suc (suc (suc (suc zero))))))) a b c d e f g s = absurd s
-  by-tests (suc (suc (suc (suc (suc (suc (suc (suc zero)))))))) a b c d e f g s = absurd s
-  by-tests (suc (suc (suc (suc (suc (suc (suc (suc (suc zero))))))))) a b c d e f g s = absurd s
-  by-tests (suc (suc (suc (suc (suc (suc (suc (suc (suc (suc zero)))))))))) a b c d e f g s =
-      rw (s .0, s .1 .0, s .1 .1 .0, s .1 .1 .1 .0, s .1 .1 .1 .1 .0, s .1 .1 .1 .1 .1 .0, s .1 .1 .1 .1 .1 .1)
-  by-tests (suc (suc (suc (suc (suc (suc (suc (suc (suc (suc (suc n))))))))))) a b c d e f g s = absurd s
-
-at-most : (n : ℕ) (a b c d e f g : Bool) → Says n a b c d e f g → n ≤ 10
-at-most zero a b c d e f g s = omega arith
-at-most (suc zero) a b c d e f g s = omega arith
-at-most (suc (suc zero)) a b c d e f g s = omega arith
-at-most (suc (suc (suc zero))) a b c d e f g s = omega arith
-at-most (suc (suc (suc (suc zero)))) a b c d e f g s = omega arith
-at-most (suc (suc (suc (suc (suc zero))))) a b c d e f g s = omega arith
-at-most (suc (suc (suc (suc (suc (suc zero)))))) a b c d e f g s = omega arith
-at-most (suc (suc (suc (suc (suc (suc (suc zero))))))) a b c d e f g s = absurd s
-at-most (suc (suc (suc (suc (suc (suc (suc (suc zero)))))))) a b c d e f g s = absurd s
-at-most (suc (suc (suc (suc (suc (suc (suc (suc (suc zero))))))))) a b c d e f g s = absurd s
-at-most (suc (suc (suc (suc (suc (suc (suc (suc (suc (suc zero)))))))))) a b c d e f g s = omega arith
-at-most (suc (suc (suc (suc (suc (suc (suc (suc (suc (suc (suc n))))))))))) a b c d e f g s = absurd s
+  by-rows : (a b c d e f g : Bool) → numberOf (leftBy (testOf a b c d e f g) done buffers .answer) ≡ numberIn (rowsOf a b c d e f g)
+  by-rows true true true true true true true = zeroed
+  by-rows true true true true true true false = refl
+  by-rows true true true true true false g = refl
+  by-rows true true true true false f g = refl
+  by-rows true true true false e f g = refl
+  by-rows true true false d e f g = refl
+  by-rows true false c d e f g = refl
+  by-rows false b c d e f g = refl
 
 -- ---- a refusal
 
@@ -132,54 +86,56 @@ module _ (buffers : Buffers) (budget stop : ℕ) where
   abbrev row-10 : Bool
   row-10 = indexFits (length (buffers .beside .ram)) (length (buffers .beside .index))
 
-  says : Says runNumber row-1 row-2 row-3 row-4 row-5 row-6 row-10
+  abbrev rows : List Row
+  rows = rowsOf row-1 row-2 row-3 row-4 row-5 row-6 row-10
+
+  says : runNumber ≡ numberIn rows
   unfolding runLeaves lentTest imageTest
-  says = by-number done done-zero buffers row-1 row-2 row-3 row-4 row-5 row-6 row-10
+  says = by-rows done done-zero buffers row-1 row-2 row-3 row-4 row-5 row-6 row-10
+
+  rising : Rising 0 rows
+  rising = (omega arith, (omega arith, (omega arith, (omega arith, (omega arith, (omega arith, (omega arith, tt)))))))
 
   -- each number is answered exactly when its row fails and no lower row does
-  exact : (n : ℕ) → (runNumber ≡ n) ↔ Says n row-1 row-2 row-3 row-4 row-5 row-6 row-10
-  unfolding runLeaves lentTest imageTest
-  exact n = (
-    λ h. subst (λ (k : ℕ). Says k row-1 row-2 row-3 row-4 row-5 row-6 row-10) h says,
-    λ h. by-tests done done-zero buffers n row-1 row-2 row-3 row-4 row-5 row-6 row-10 h,
-  )
+  exact : (k : ℕ) → (runNumber ≡ numberAt k rows) ↔ First k rows
+  exact k = number-exact rows rising runNumber says k
 
   pub number-1 : (runNumber ≡ 1) ↔ (row-1 ≡ false)
-  number-1 = exact 1
+  number-1 = exact 0
 
   pub number-2 : (runNumber ≡ 2) ↔ ((row-1 ≡ true) × (row-2 ≡ false))
-  number-2 = exact 2
+  number-2 = exact 1
 
   pub number-3 : (runNumber ≡ 3) ↔ ((row-1 ≡ true) × ((row-2 ≡ true) × (row-3 ≡ false)))
-  number-3 = exact 3
+  number-3 = exact 2
 
   pub number-4 : (runNumber ≡ 4) ↔ ((row-1 ≡ true) × ((row-2 ≡ true) × ((row-3 ≡ true) × (row-4 ≡ false))))
-  number-4 = exact 4
+  number-4 = exact 3
 
   pub number-5 : (runNumber ≡ 5) ↔ ((row-1 ≡ true) × ((row-2 ≡ true) × ((row-3 ≡ true) × ((row-4 ≡ true) × (row-5 ≡ false)))))
-  number-5 = exact 5
+  number-5 = exact 4
 
   pub number-6 : (runNumber ≡ 6) ↔ ((row-1 ≡ true) × ((row-2 ≡ true) × ((row-3 ≡ true) × ((row-4 ≡ true) × ((row-5 ≡ true) × (row-6 ≡ false))))))
-  number-6 = exact 6
+  number-6 = exact 5
 
   pub number-10 : (runNumber ≡ 10) ↔ ((row-1 ≡ true) × ((row-2 ≡ true) × ((row-3 ≡ true) × ((row-4 ≡ true) × ((row-5 ≡ true) × ((row-6 ≡ true) × (row-10 ≡ false)))))))
-  number-10 = exact 10
+  number-10 = exact 6
 
   pub number-0 : (runNumber ≡ 0) ↔ ((row-1 ≡ true) × ((row-2 ≡ true) × ((row-3 ≡ true) × ((row-4 ≡ true) × ((row-5 ≡ true) × ((row-6 ≡ true) × (row-10 ≡ true)))))))
-  number-0 = exact 0
+  number-0 = zero-exact rows rising runNumber says
 
   -- and no other number: no step is taken back, no record checked and no address asked for
   pub never-7 : runNumber ≡ 7 → ⊥
-  never-7 = exact 7 .0
+  never-7 e = number-other rows 7 refl (sym says ∙ e)
 
   pub never-8 : runNumber ≡ 8 → ⊥
-  never-8 = exact 8 .0
+  never-8 e = number-other rows 8 refl (sym says ∙ e)
 
   pub never-9 : runNumber ≡ 9 → ⊥
-  never-9 = exact 9 .0
+  never-9 e = number-other rows 9 refl (sym says ∙ e)
 
   pub no-other : runNumber ≤ 10
-  no-other = at-most runNumber row-1 row-2 row-3 row-4 row-5 row-6 row-10 says
+  no-other = rw says (number-most rows 10 (omega arith, (omega arith, (omega arith, (omega arith, (omega arith, (omega arith, (omega arith, tt))))))))
 
   -- a refusal leaves every byte as it was
   pub refused-same : (runNumber ≡ 0 → ⊥) → Unchanged left buffers

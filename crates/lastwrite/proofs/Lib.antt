@@ -1,4 +1,3 @@
--- Answers: for the code. Rows: tests in the order of their numbers. Theorems: what the statement amounts to.
+-- Answers: for the code. Theorems: what the statement amounts to.
 pub mod Answers
-pub mod Rows
 pub mod Theorems

@@ -28,10 +28,10 @@ use Rattle.answer.specs.declared.Refusal.the-variants.{Ram, Paper, Journal, Ima
 use Rattle.answer.specs.declared.Answer.{Answer}
 use Rattle.answer.specs.declared.lent.Test.{Test}
 use Rattle.answer.specs.declared.lent.Test.the-variants.{Passed, Failed}
+use Rattle.answer.proofs.Rows.{Row, row, numberIn, numberAt, First, Rising, number-exact, zero-exact, number-other, number-most}
 use Rattle.accepted.proofs.Start.{few-slots, ring-sound, image-mark}
 use Rattle.backward.specs.Back.{buffersTest, ruleTest}
 use Rattle.lastwrite.specs.LastWrite.{recordsFit, wordFits, restTest, askedTest, lastWriteTest, placeOf, foundIn, timeIn, answerWords, doneOf, answerBy, bytesBy, lastWriteAnswer, lastWriteBytes, LastWriteIs}
-use Rattle.lastwrite.proofs.Rows.{Row, row, numberIn, numberAt, First, number-exact, number-other, number-most}
 
 -- ---- eight tests in a row
 
@@ -134,10 +134,12 @@ module _ (b : Buffers) (address : ℕ) where
     unfolding buffersTest ruleTest askedTest restTest
     says = by-rows found row-1 row-3 row-4 row-5 row-8 row-10 row-11 row-12
 
+    rising : Rising 0 rows
+    rising = (omega arith, (omega arith, (omega arith, (omega arith, (omega arith, (omega arith, (omega arith, (omega arith, tt))))))))
+
     -- each number is answered exactly when its row fails and no lower row does
     exact : (k : ℕ) → (lastWriteNumber ≡ numberAt k rows) ↔ First k rows
-    exact k =
-        number-exact rows (omega arith, (omega arith, (omega arith, (omega arith, (omega arith, (omega arith, (omega arith, (omega arith, tt)))))))) lastWriteNumber says k
+    exact k = number-exact rows rising lastWriteNumber says k
 
     pub number-1 : (lastWriteNumber ≡ 1) ↔ (row-1 ≡ false)
     number-1 = exact 0
@@ -168,15 +170,7 @@ module _ (b : Buffers) (address : ℕ) where
 
     pub number-0 : (lastWriteNumber ≡ 0)
         ↔ ((row-1 ≡ true) × ((row-3 ≡ true) × ((row-4 ≡ true) × ((row-5 ≡ true) × ((row-8 ≡ true) × ((row-10 ≡ true) × ((row-11 ≡ true) × (row-12 ≡ true))))))))
-    number-0 = (
-      λ e.
-          let t = exact 8 .0 e in
-          let u = t .1 .1 .1 .1 in
-          (t .0, (t .1 .0, (t .1 .1 .0, (t .1 .1 .1 .0, (u .0, (u .1 .0, (u .1 .1 .0, u .1 .1 .1 .0))))))),
-      λ t.
-          let u = t .1 .1 .1 .1 in
-          exact 8 .1 (t .0, (t .1 .0, (t .1 .1 .0, (t .1 .1 .1 .0, (u .0, (u .1 .0, (u .1 .1 .0, (u .1 .1 .1, tt)))))))),
-    )
+    number-0 = zero-exact rows rising lastWriteNumber says
 
     -- and no other number: no ROM is lent, no range and no count of steps is asked for
     pub never-2 : lastWriteNumber ≡ 2 → ⊥

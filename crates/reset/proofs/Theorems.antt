@@ -3,7 +3,7 @@ use Prim.Native.Nat.{ℕ}
 use mathlib.Core.Path.{_≡_, refl, sym, ap, _∙_}
 use mathlib.Core.Logic.{_↔_}
 use mathlib.Core.Bool.{Bool, true, false, cond}
-use mathlib.Core.List.{List}
+use mathlib.Core.List.{List, [], _∷_}
 use native.Mathlib.Omega.{arith}
 use borrow.Author.Tests.{eqb-true, eqb-false}
 use lib.Dec.{eqb}
@@ -11,6 +11,7 @@ use lib.ListN.{length, replicate}
 use Rattle.state.specs.Layout.{bytesOf}
 use Rattle.rules.specs.Rules.{rangesKeep, goodImage}
 use Rattle.answer.specs.Lent.{anyIndexFits}
+use Rattle.answer.proofs.Rows.{Row, row, numberIn, numberAt, First, number-exact}
 use Rattle.answer.specs.declared.Reason.the-variants.{NoReason}
 use Rattle.answer.specs.declared.Refusal.the-variants.{Image, Range, Index}
 use Rattle.answer.specs.declared.Answer.{Answer}
@@ -24,22 +25,14 @@ use Rattle.reset.proofs.Keeps.{reset-keeps}
 abbrev byTests : Bool → Bool → Bool → Answer
 byTests x y z = cond x (cond y (cond z (Done 0 NoReason) (Refused Index)) (Refused Range)) (Refused Image)
 
--- which tests led to which number
-record Led (x y z : Bool) (n : ℕ) : Type 0 where
-  to-0 : n ≡ 0 → (x ≡ true) × (y ≡ true) × (z ≡ true)
-  to-5 : n ≡ 5 → x ≡ false
-  to-6 : n ≡ 6 → (x ≡ true) × (y ≡ false)
-  to-10 : n ≡ 10 → (x ≡ true) × (y ≡ true) × (z ≡ false)
+abbrev rowsOf : (x y z : Bool) → List Row
+rowsOf x y z = row 5 x ∷ row 6 y ∷ row 10 z ∷ []
 
-by-number : (x y z : Bool) → Led x y z (numberOf (byTests x y z))
-by-number true true true =
-    record { to-0 = λ e. (refl, refl, refl); to-5 = λ e. absurd (omega arith); to-6 = λ e. absurd (omega arith); to-10 = λ e. absurd (omega arith) }
-by-number true true false =
-    record { to-0 = λ e. absurd (omega arith); to-5 = λ e. absurd (omega arith); to-6 = λ e. absurd (omega arith); to-10 = λ e. (refl, refl, refl) }
-by-number true false z =
-    record { to-0 = λ e. absurd (omega arith); to-5 = λ e. absurd (omega arith); to-6 = λ e. (refl, refl); to-10 = λ e. absurd (omega arith) }
-by-number false y z =
-    record { to-0 = λ e. absurd (omega arith); to-5 = λ e. refl; to-6 = λ e. absurd (omega arith); to-10 = λ e. absurd (omega arith) }
+by-rows : (x y z : Bool) → numberOf (byTests x y z) ≡ numberIn (rowsOf x y z)
+by-rows true true true = refl
+by-rows true true false = refl
+by-rows true false z = refl
+by-rows false y z = refl
 
 module _ (image index : List ℕ) (scale delay installed : ℕ) where
   abbrev answer : Answer
@@ -48,20 +41,25 @@ module _ (image index : List ℕ) (scale delay installed : ℕ) where
   abbrev number : ℕ
   number = numberOf answer
 
-  led : Led (eqb (length image) 509) (rangesKeep scale delay installed) (anyIndexFits (length index)) number
-  led = by-number (eqb (length image) 509) (rangesKeep scale delay installed) (anyIndexFits (length index))
+  abbrev rows : List Row
+  rows = rowsOf (eqb (length image) 509) (rangesKeep scale delay installed) (anyIndexFits (length index))
+
+  led : (k : ℕ) → number ≡ numberAt k rows → First k rows
+  led k =
+      number-exact rows (omega arith, (omega arith, (omega arith, tt))) number
+      (by-rows (eqb (length image) 509) (rangesKeep scale delay installed) (anyIndexFits (length index))) k .0
 
   -- each number is answered exactly when its condition holds and no lower number's does
   pub number-5 : (number ≡ 5) ↔ (length image ≡ 509 → ⊥)
   number-5 = (
-    λ e. eqb-false (length image) 509 (led .to-5 e),
+    λ e. eqb-false (length image) 509 (led 0 e),
     λ h. ap numberOf (says-bad-length image index scale delay installed h),
   )
 
   pub number-6 : (number ≡ 6) ↔ ((length image ≡ 509) × (rangesKeep scale delay installed ≡ false))
   number-6 = (
     λ e.
-        let t = led .to-6 e in
+        let t = led 1 e in
         (eqb-true (length image) 509 (t .0), t .1),
     λ h. ap numberOf (says-bad-range image index scale delay installed (h .0) (h .1)),
   )
@@ -69,16 +67,16 @@ module _ (image index : List ℕ) (scale delay installed : ℕ) where
   pub number-10 : (number ≡ 10) ↔ ((length image ≡ 509) × (rangesKeep scale delay installed ≡ true) × (anyIndexFits (length index) ≡ false))
   number-10 = (
     λ e.
-        let t = led .to-10 e in
-        (eqb-true (length image) 509 (t .0), t .1, t .2),
+        let t = led 2 e in
+        (eqb-true (length image) 509 (t .0), t .1 .0, t .1 .1),
     λ h. ap numberOf (says-bad-index image index scale delay installed (h .0) (h .1) (h .2)),
   )
 
   pub number-0 : (number ≡ 0) ↔ ((length image ≡ 509) × (rangesKeep scale delay installed ≡ true) × (anyIndexFits (length index) ≡ true))
   number-0 = (
     λ e.
-        let t = led .to-0 e in
-        (eqb-true (length image) 509 (t .0), t .1, t .2),
+        let t = led 3 e in
+        (eqb-true (length image) 509 (t .0), t .1 .0, t .1 .1 .0),
     λ h. ap numberOf (says-done image index scale delay installed (h .0) (h .1) (h .2)),
   )
 
