@@ -19,7 +19,7 @@ use state::machine::Machine;
 use word::big::word_at;
 
 // The bytes of an image of the version before.
-pub const OLD: usize = 501;
+const OLD: usize = 501;
 
 // The old bytes, and 0 for the words that are new.
 fn widened(old: &[u8]) -> [u8; 509]
