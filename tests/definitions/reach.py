@@ -27,6 +27,7 @@ STATEMENTS = [
     "SlotTold", "KeepsBranch", "readsOf", "Agree",
     "lastChangeOf", "newestAtOf", "oldestAtOf", "Tells", "pcsAgo", "agoIn", "TellsLast",
     "isa.encodeOf", "isa.Proper",
+    "remote.heardOf", "remote.toldOf", "remote.Within", "remote.Says",
     "commandOf", "text.numberOf", "text.Laid", "text.decimalOf", "text.groupedOf", "text.signedOf", "text.hexOf",
 ]
 

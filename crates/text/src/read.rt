@@ -105,7 +105,7 @@ fn sum(digits: &[u8], base: u64) -> Total
 }
 
 // What a byte is worth as a digit, and 16 where it is none.
-fn digit(b: u8) -> u64
+pub fn digit(b: u8) -> u64
     ensures { λ r. ⌜ r ≡ digitOf b ⌝ }
 {
     if b < b'0' {

@@ -83,7 +83,7 @@ fn put_low(out: &mut [u8], at: usize, value: u64, base: u64, count: usize) -> us
 }
 
 // A digit, in lower case.
-fn put_digit(out: &mut [u8], at: usize, digit: u64) -> usize
+pub fn put_digit(out: &mut [u8], at: usize, digit: u64) -> usize
     ensures { λ r. ⌜ Laid (now (out .entry)) at (faceOf digit ∷ []) (now (out .exit)) r ⌝ }
 {
     put_byte(out, at, face(digit))
@@ -98,7 +98,7 @@ fn face(digit: u64) -> u8
     87 + (digit % 16) as u8
 }
 
-fn put_byte(out: &mut [u8], at: usize, byte: u8) -> usize
+pub fn put_byte(out: &mut [u8], at: usize, byte: u8) -> usize
     ensures { λ r. ⌜ Laid (now (out .entry)) at (byte ∷ []) (now (out .exit)) r ⌝ }
 {
     if out.len() <= at {

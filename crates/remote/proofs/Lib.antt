@@ -1,0 +1,10 @@
+pub mod Sums
+pub mod Rooms
+pub mod Courses
+pub mod Bodies
+pub mod Frames
+pub mod Replies
+pub mod Clear
+pub mod RoundTrip
+pub mod Within
+pub mod Examples
