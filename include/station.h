@@ -236,6 +236,64 @@ uint64_t station_panel_turn(uint64_t *session, uint64_t event,
                             uint8_t *index, size_t index_bytes);
 
 /*
+ * One turn of a session of gdb with a station, by gdb's remote protocol. It is the
+ * same loop, but for the bytes: what came from gdb and is not used yet is lent to
+ * every turn, and the turn says how many of them it used.
+ *
+ *     event = STATION_EVENT_START;
+ *     for (;;) {
+ *         answer = station_gdb_turn(session, event, in, in_bytes, out, ..);
+ *         write the first station_bytes(answer) bytes of out: the last
+ *             session[STATION_GDB_WORD_SAID] of them to standard error, those
+ *             before to standard output
+ *         drop the first session[STATION_GDB_WORD_USED] bytes of in
+ *         do what station_wants(answer) names; the outcome is the next event
+ *     }
+ *
+ * Wants are STATION_WANTS_INPUT (more bytes behind those in `in`; events GO_ON,
+ * INTERRUPT, END_OF_INPUT), _GO_ON (the same, without waiting for any), _SAVE
+ * (SAVED, NOT_SAVED) and _END.
+ *
+ * session    STATION_GDB_WORDS words, all 0 before the first turn.
+ * in         what gdb sent and no turn has used, at most STATION_GDB_IN_BYTES.
+ * out        lent for writing: what is to be written.
+ * packet,    lent for writing, and for no other use between the turns: a packet,
+ * reply,     a reply, and what a piece of a run overwrites.
+ * kept
+ * image and so on as for station_panel_turn. There is a station.
+ */
+#define STATION_GDB_WORDS 256
+
+/* How long the buffers should be. Shorter ones cut what is said, and no more, but
+   for `kept`: with a shorter one a stop may lose or spoil steps on hand. */
+#define STATION_GDB_IN_BYTES 65536
+#define STATION_GDB_OUT_BYTES 131072
+#define STATION_GDB_PACKET_BYTES 16384
+#define STATION_GDB_REPLY_BYTES 65536
+#define STATION_GDB_KEPT_BYTES 328192
+
+enum {
+    /* How many bytes of `in` the turn used. */
+    STATION_GDB_WORD_USED = 0,
+    /* How many of the last bytes of `out` go to standard error. */
+    STATION_GDB_WORD_SAID = 1
+};
+
+uint64_t station_gdb_turn(uint64_t *session, uint64_t event,
+                          const uint8_t *in, size_t in_bytes,
+                          uint8_t *out, size_t out_bytes,
+                          uint8_t *packet, size_t packet_bytes,
+                          uint8_t *reply, size_t reply_bytes,
+                          uint8_t *image, size_t image_bytes,
+                          const uint8_t *execution, size_t execution_bytes,
+                          const uint8_t *bootstrap, size_t bootstrap_bytes,
+                          uint8_t *ram, size_t ram_bytes,
+                          uint8_t *paper, size_t paper_bytes,
+                          uint8_t *journal, size_t journal_bytes,
+                          uint8_t *index, size_t index_bytes,
+                          uint8_t *kept, size_t kept_bytes);
+
+/*
  * The turn after STATION_WANTS_OTHER: shows in what two stations differ. Only the
  * session and out are written. Answers as station_panel_turn does. The index is
  * not lent: it follows from the others.

@@ -1,6 +1,7 @@
 #!/bin/sh
 # Makes the programs of the demonstration in FOLDER: boot.rom, kernel.rom,
-# import.bin, and import.lst, the listing of the import program.
+# import.bin, import.lst, the listing of the import program, and for gdb
+# boot.elf, kernel.elf and import.elf.
 #
 #     programs/build.sh FOLDER
 #
@@ -37,4 +38,3 @@ mipsel-linux-gnu-objdump -d -l -j .text "$folder/import.elf" | awk '
         sub(":", "", $1)
         printf "0x%s  0x%s  %-12s  %-12s  %s%s\n", $1, $2, name, place, $3, $4 == "" ? "" : " " $4
     }' >> "$folder/import.lst"
-rm "$folder/boot.elf" "$folder/kernel.elf" "$folder/import.elf"

@@ -6,7 +6,7 @@ use std::process::exit;
 
 const DEFAULT_SEED: u64 = 1;
 
-fn argument(place: usize, name: &str, otherwise: u64) -> u64 {
+pub fn argument(place: usize, name: &str, otherwise: u64) -> u64 {
     match env::args().nth(place) {
         None => otherwise,
         Some(text) => text.parse().unwrap_or_else(|_| {

@@ -33,6 +33,7 @@ esac
 "$here/../../station/build.sh" "$archive" "$build/checked" -g $checks -fno-sanitize-recover=all
 $cc -O1 -fPIC -shared -Wall -Wextra -Werror -o "$build/shim.so" "$here/../files/shim.c"
 gcc -std=c99 -D_POSIX_C_SOURCE=200809L -Wall -Wextra -pedantic -Werror -O1 -g -fsanitize=address,undefined \
-    -fno-sanitize-recover=all -I "$here/../../include" "$here/any.c" "$here"/../../station/*.c -o "$build/any"
+    -fno-sanitize-recover=all -I "$here/../../include" -I "$here/../../station" "$here/any.c" "$here"/../../station/panel/*.c \
+    "$here"/../../station/*.c -o "$build/any"
 PYTHONDONTWRITEBYTECODE=1 python3 "$here/test.py" "$build" "$@"
 echo "tests/station: all passed"

@@ -7,9 +7,9 @@
 #include "session.h"
 #include "signals.h"
 #include "station.h"
+#include "streams.h"
 
 #include <errno.h>
-#include <fcntl.h>
 #include <string.h>
 #include <sys/stat.h>
 #include <unistd.h>
@@ -31,15 +31,6 @@
     "4 another program holds the station.\n"
 
 #define VERSION "lavushmir 0.8\n"
-
-/* A file must not get the number of a standard stream that is closed: nothing
- * is read from such a stream, and a write to it fails. */
-static void hold_standard_streams(void)
-{
-    for (int fd = STDIN_FILENO; fd <= STDERR_FILENO; fd++)
-        if (fcntl(fd, F_GETFD) < 0)
-            (void)open("/dev/null", O_RDONLY); /* the lowest free number is this one */
-}
 
 static int usage(void)
 {
@@ -87,7 +78,7 @@ int main(int argc, char **argv)
 {
     static station s;
     int r, one_command = argc > 2;
-    hold_standard_streams();
+    streams_hold();
     signals_catch();
     if (argc < 2 || *argv[1] == '\0')
         return usage();

@@ -1,0 +1,5 @@
+# Detach saves the station.
+tbreak set_units
+continue
+print $onhand
+detach

@@ -1,0 +1,55 @@
+//! Answers that are wrong on purpose: the rule by which the reference stops, what
+//! the stub says, or what it leaves behind, is made wrong. Each must be noticed.
+
+use crate::named_faults::faults;
+
+faults! {
+    // The rule.
+    FirstPcNotLookedAt,
+    FirstPcLookedAtBackwards,
+    FirstPcLookedAtByAStep,
+    WatchAfterTheStore,
+    WatchUndoneBackwards,
+    EqualStoreCounts,
+    NeighbourByteCounts,
+    WatchBeforeBreakpoint,
+    BreakpointBeforeWatchBackwards,
+    StepPassesWatches,
+    BackStepPassesWatches,
+    OldestForNewest,
+    SecondBreakpointOverlooked,
+    SecondWatchOverlooked,
+    LongWatchCut,
+    NarrowChangesOverlooked,
+    KernelStoresOverlooked,
+    RangeEndIncluded,
+    RangeStepsOnce,
+    TakenOutStays,
+    OldestStepNeverHits,
+    HistoryEndsOneStepEarly,
+    ExceptionStops,
+    KeptInterruptDropped,
+    OneStepLater,
+    OneStepLaterBackwards,
+    // What is said.
+    PcOfTheNext,
+    StackPointerStale,
+    WatchBesideTheWatched,
+    WatchNotTold,
+    WatchToldForABreakpoint,
+    HistoryEndNotTold,
+    HistoryEndToldEarly,
+    InterruptAsTrap,
+    BreakToldUnasked,
+    // What is left behind.
+    OneOnHandFewer,
+    HalfOnHandLost,
+    NextSlotOneOn,
+    OldestSlotOverwritten,
+    UnusedSlotWritten,
+    IndexEntryLost,
+    IndexEntryStale,
+    RamWritten,
+    PaperWritten,
+    ImageWritten,
+}

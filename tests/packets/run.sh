@@ -1,0 +1,34 @@
+#!/bin/sh
+# Damaged and random packets: for station_gdb_turn itself, and for the program
+# lavushmir-gdb over a pipe.
+#
+#     tests/packets/run.sh ARCHIVE [INPUTS [SEED]]
+#
+# ARCHIVE is the x86-64 archive of the station, a file named libstation.a
+# (rt staticlib station); for Arm see tests/archive.sh. Without INPUTS it is the
+# part that the gate runs; 100000 is the whole. The program gets one session of up
+# to 30 inputs for each 50 INPUTS. It is built with the compiler's checks for
+# undefined behaviour and for bad addresses; the latter want more memory than qemu
+# can give, so on Arm it goes without them. Needs python3.
+set -eu
+if [ $# -lt 1 ] || [ $# -gt 3 ]; then
+    echo "usage: $0 ARCHIVE [INPUTS [SEED]]" >&2
+    exit 2
+fi
+. "$(dirname "$0")/../archive.sh"
+use_archive station "$1"
+cd "$(dirname "$0")"
+inputs=${2:-10000} seed=${3:-1}
+build=$(mktemp -d)
+trap 'rm -rf "$build"' EXIT
+
+run_program "$inputs" "$seed"
+
+case $(uname -m) in
+x86_64) checks="-fsanitize=address,undefined" ;;
+*) checks="-fsanitize=undefined -static-libubsan" ;;
+esac
+../../station/build.sh "$ARCHIVE_DIR/libstation.a" "$build" -g $checks -fno-sanitize-recover=all
+run_program write $((inputs / 50)) "$seed" "$build/inputs"
+export ASAN_OPTIONS=exitcode=99:detect_leaks=0 UBSAN_OPTIONS=exitcode=99:print_stacktrace=1
+PYTHONDONTWRITEBYTECODE=1 python3 pipe.py "$build" "$build/inputs"
