@@ -4,5 +4,6 @@ pub mod Named
 pub mod Asks
 pub mod Laws
 pub mod Parts
+pub mod NearFetch
 pub mod PlainFetch
 pub mod Fetches

@@ -1,11 +1,15 @@
 // The word at PC, or the exception that its fetch is.
 ghost use mathlib.Core.Path.{_≡_};
+ghost use lib.ListN.{length};
+ghost use Rattle.pages.specs.Pages.{Known};
 ghost use Rattle.decide.specs.Lent.{lentOf, Whole};
 ghost use Rattle.decide.specs.Fetch.{fetchOf};
 use crate::lent::sizes;
 use crate::lent::word_in;
 use board::places::RAM;
 use cp0::privilege::mode_of;
+use pages::near;
+use pages::place;
 use reach::Reached;
 use reach::access::Access;
 use reach::access::Kind;
@@ -43,13 +47,24 @@ pub fn fetch_slow(
     }
 }
 
-// The plain access first: what is aligned and in RAM with VM off is read at once.
-pub fn fetch(core: Core, rows: [Row; 16], execution: &[u8], bootstrap: &[u8], ram: &[u8]) -> Fetched
+// The plain access first: what is aligned and in RAM with VM off is read at once; then the page that is remembered.
+pub fn fetch(
+    core: Core,
+    rows: [Row; 16],
+    pages: &[u32; 5],
+    execution: &[u8],
+    bootstrap: &[u8],
+    ram: &[u8],
+) -> Fetched
     requires { ⌜ Whole (lentOf (now execution) (now bootstrap) (now ram)) ⌝ }
+    requires { ⌜ Known (now pages) rows (length (now ram)) ⌝ }
     ensures { λ r. ⌜ r ≡ fetchOf core rows (lentOf (now (execution .entry)) (now (bootstrap .entry)) (now (ram .entry))) ⌝ }
 {
     if plain(core.cp0.status, Width::Four, ram.len() as u32, core.pc) {
         return Fetched::Word(memory::load_word(ram, (core.pc - RAM) as usize));
+    }
+    if near(pages[0], Width::Four, core.cp0.status, core.cp0.entry_hi, core.pc) {
+        return Fetched::Word(memory::load_word(ram, place(pages[1], core.pc) as usize));
     }
     fetch_slow(core, rows, execution, bootstrap, ram)
 }

@@ -1,3 +1,4 @@
+pub mod NearLands
 pub mod Plain
 pub mod InParts
 pub mod Registers

@@ -1,5 +1,6 @@
-// Loads and stores: the virtual address, and where it lands. Each tries the plain access first, on its own, so that what is common goes straight through.
+// Loads and stores: the virtual address, and where it lands. Each tries the plain access first, on its own, and then the page that is remembered, so that what is common goes straight through.
 ghost use mathlib.Core.Path.{_≡_};
+ghost use Rattle.pages.specs.Pages.{Known};
 ghost use Rattle.state.specs.Layout.{HoldsZero};
 ghost use Rattle.intend.specs.Operand.{regOf};
 ghost use Rattle.intend.specs.Access.{loadWidth, storeWidth, reachedOf, loadOf, storeOf};
@@ -13,6 +14,8 @@ use cp0::privilege::mode_of;
 use cp0::registers::Cp0;
 use isa::instr::LoadOp;
 use isa::instr::StoreOp;
+use pages::near;
+use pages::place;
 use reach::Reached;
 use reach::access::Access;
 use reach::access::Kind;
@@ -69,15 +72,20 @@ pub fn load(
     cp0: Cp0,
     regs: &[u32; 32],
     rows: [Row; 16],
+    pages: &[u32; 5],
     sizes: Sizes,
 ) -> Intent
     requires { ⌜ HoldsZero (now regs) ⌝ }
+    requires { ⌜ Known (now pages) rows (sizes .ram) ⌝ }
     ensures { λ r. ⌜ r ≡ loadOf op rt (regOf (now (regs .entry)) base) offset cp0 rows sizes ⌝ }
 {
     let va = addiu(reg(regs, base), offset);
     let width = load_width(op);
     if plain(cp0.status, width, sizes.ram, va) {
         return Intent::Load(op, rt, va, Reached::Lands(Place::Ram(va - RAM)));
+    }
+    if near(pages[2], width, cp0.status, cp0.entry_hi, va) {
+        return Intent::Load(op, rt, va, Reached::Lands(Place::Ram(place(pages[3], va))));
     }
     let answer = reached(Kind::Load, width, cp0, rows, sizes, va);
     Intent::Load(op, rt, va, answer)
@@ -91,15 +99,20 @@ pub fn store(
     cp0: Cp0,
     regs: &[u32; 32],
     rows: [Row; 16],
+    pages: &[u32; 5],
     sizes: Sizes,
 ) -> Intent
     requires { ⌜ HoldsZero (now regs) ⌝ }
+    requires { ⌜ Known (now pages) rows (sizes .ram) ⌝ }
     ensures { λ r. ⌜ r ≡ storeOf op (regOf (now (regs .entry)) rt) (regOf (now (regs .entry)) base) offset cp0 rows sizes ⌝ }
 {
     let va = addiu(reg(regs, base), offset);
     let width = store_width(op);
     if plain(cp0.status, width, sizes.ram, va) {
         return Intent::Store(op, reg(regs, rt), va, Reached::Lands(Place::Ram(va - RAM)));
+    }
+    if near(pages[2], width, cp0.status, cp0.entry_hi, va) & (pages[4] == 1) {
+        return Intent::Store(op, reg(regs, rt), va, Reached::Lands(Place::Ram(place(pages[3], va))));
     }
     let answer = reached(Kind::Store, width, cp0, rows, sizes, va);
     Intent::Store(op, reg(regs, rt), va, answer)

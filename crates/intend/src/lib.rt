@@ -1,5 +1,6 @@
 // What an instruction asks for: sources are read first, so every answer is made of what they held before it.
 ghost use mathlib.Core.Path.{_≡_};
+ghost use Rattle.pages.specs.Pages.{Known};
 ghost use Rattle.state.specs.Layout.{HoldsZero};
 ghost use Rattle.intend.specs.Intend.{intendOf};
 use crate::access::load;
@@ -26,8 +27,16 @@ pub mod intent; // what an instruction asks for
 pub mod operand; // registers as they are read, and the next PC
 mod operate; // what is computed from registers and immediates
 
-pub fn intend(instr: Instr, core: Core, regs: &[u32; 32], rows: [Row; 16], sizes: Sizes) -> Intent
+pub fn intend(
+    instr: Instr,
+    core: Core,
+    regs: &[u32; 32],
+    rows: [Row; 16],
+    pages: &[u32; 5],
+    sizes: Sizes,
+) -> Intent
     requires { ⌜ HoldsZero (now regs) ⌝ }
+    requires { ⌜ Known (now pages) rows (sizes .ram) ⌝ }
     ensures { λ r. ⌜ r ≡ intendOf core (now (regs .entry)) rows sizes instr ⌝ }
 {
     let cp0 = core.cp0;
@@ -49,8 +58,8 @@ pub fn intend(instr: Instr, core: Core, regs: &[u32; 32], rows: [Row; 16], sizes
         Instr::Sign(op, rs, offset) => branch::signs(op, rs, offset, core, regs),
         Instr::Immediate(op, rt, rs, imm) => operate::immediate(op, rt, rs, imm, regs),
         Instr::LoadUpper(rt, imm) => Intent::Write(rt, lui(imm)),
-        Instr::Load(op, rt, base, offset) => load(op, rt, base, offset, cp0, regs, rows, sizes),
-        Instr::Store(op, rt, base, offset) => store(op, rt, base, offset, cp0, regs, rows, sizes),
+        Instr::Load(op, rt, base, offset) => load(op, rt, base, offset, cp0, regs, rows, pages, sizes),
+        Instr::Store(op, rt, base, offset) => store(op, rt, base, offset, cp0, regs, rows, pages, sizes),
         Instr::Control(c) => control(c, cp0, regs, rows),
     }
 }

@@ -10,7 +10,7 @@ use translate::Translated;
 
 pub mod access; // what an instruction asks of an address
 mod bus; // what the board gives it there
-mod check; // alignment and privilege
+pub mod check; // alignment and privilege
 pub mod codes; // the exceptions' numbers
 pub mod plain; // an access that needs neither the table nor the map
 pub mod translate; // the physical address, by the table

@@ -14,6 +14,7 @@ use held::unpacked;
 use look::Stop;
 use look::looked;
 use look::next_look;
+use pages::follow;
 use printer::Line;
 use printer::tick::any_busy;
 use state::machine::Board;
@@ -119,6 +120,7 @@ fn spin(
     let mut rows = parts.rows;
     let mut words = parts.words;
     let mut mark = parts.mark;
+    let mut pages = [0u32; 5];
     let mut steps: u32 = 0;
     let mut limit = next_look(rows, steps, budget);
     let why = loop {
@@ -141,7 +143,9 @@ fn spin(
         limit = look.limit;
         let after = start(&mut core, held, settings, &mut words, paper, journal, mark);
         let now = core_in(&core);
-        let d = decide(now, &regs, rows, execution, bootstrap, ram);
+        let cp0 = now.cp0;
+        follow(&mut pages, cp0.status, cp0.entry_hi, now.pc, &regs, rows, ram);
+        let d = decide(now, &regs, rows, &pages, execution, bootstrap, ram);
         let effect = d.effect;
         let old = old_row(effect, rows);
         let turned = finish(
@@ -171,6 +175,7 @@ fn spin(
             Effect::TlbRow(i, high, low) => {
                 let written = tlb::write(rows, i as usize, Row { high, low });
                 rows = written;
+                pages = [0u32; 5];
                 limit = next_look(rows, steps, budget);
             }
             Effect::Nothing => {}

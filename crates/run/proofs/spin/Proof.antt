@@ -13,6 +13,8 @@ use Rattle.journal.specs.Journal.{slotsOf}
 use Rattle.journal.specs.Journal as slots
 use Rattle.tlb.specs.declared.Row.{Row}
 use Rattle.tlb.proofs.Laws.{written-row, length-written}
+use Rattle.pages.specs.Pages.{Known}
+use Rattle.pages.proofs.Knows.{knows-none}
 use Rattle.state.specs.Layout.{HoldsZero}
 use Rattle.decide.specs.Lent.{Whole}
 use Rattle.decide.specs.Range.{Within}
@@ -41,7 +43,7 @@ use Rattle.run.proofs.spin.Tie as tie
 
 -- everything at the loop's head, the lengths that stay, and how far the run is
 abbrev Inv-loop : tie.InvT-loop
-Inv-loop settings execution bootstrap ram₀ paper₀ journal₀ index₀ budget stop core₀ held₀ regs₀ rows₀ words₀ mark₀ steps₀ limit₀ ram paper journal index core held regs rows words mark steps limit =
+Inv-loop settings execution bootstrap ram₀ paper₀ journal₀ index₀ budget stop core₀ held₀ regs₀ rows₀ words₀ mark₀ pages₀ steps₀ limit₀ ram paper journal index core held regs rows words mark pages steps limit =
     NextLook rows steps budget limit
     × (length ram ≡ length ram₀)
     × (length paper ≡ length paper₀)
@@ -52,6 +54,7 @@ Inv-loop settings execution bootstrap ram₀ paper₀ journal₀ index₀ budget
     × (length core ≡ 14)
     × HoldsZero regs
     × (length index ≡ length index₀)
+    × Known pages rows (length ram₀)
     × Reached (forward (romsOf execution bootstrap)) (slotsOf journal₀) budget stop
     (configOf (romsOf execution bootstrap) settings (record { core = core₀; held = held₀; regs = regs₀; rows = rows₀; words = words₀; mark = mark₀ })
     (besideOf execution bootstrap ram₀ paper₀ journal₀ index₀))
@@ -60,7 +63,7 @@ Inv-loop settings execution bootstrap ram₀ paper₀ journal₀ index₀ budget
     (besideOf execution bootstrap ram paper journal index))
 
 abbrev μ-loop : tie.MeasureT-loop
-μ-loop settings execution bootstrap ram₀ paper₀ journal₀ index₀ budget stop core₀ held₀ regs₀ rows₀ words₀ mark₀ steps₀ limit₀ ram paper journal index core held regs rows words mark steps limit = budget - steps
+μ-loop settings execution bootstrap ram₀ paper₀ journal₀ index₀ budget stop core₀ held₀ regs₀ rows₀ words₀ mark₀ pages₀ steps₀ limit₀ ram paper journal index core held regs rows words mark pages steps limit = budget - steps
 
 abbrev Head : Type 0
 Head = tie.At-loop Inv-loop μ-loop
@@ -77,8 +80,11 @@ asked c = finished c .before .before .before .before .before .before .before
 abbrev decided : After → tie.After-decide Inv-loop μ-loop
 decided c = asked c .before
 
+abbrev followed : After → tie.After-follow Inv-loop μ-loop
+followed c = decided c .before .before .before .before
+
 abbrev read : After → tie.After-core-in Inv-loop μ-loop
-read c = decided c .before .before .before
+read c = followed c .before .before .before .before .before
 
 abbrev started : After → tie.After-start Inv-loop μ-loop
 started c = read c .before .before .before .before .before .before
@@ -111,8 +117,8 @@ besideAt h = let a = entry h .args in besideOf (a .execution .now) (a .bootstrap
 whole-at : (h : Head) → Whole (lentFrom (besideAt h))
 whole-at h = turns.still-whole (h .loop .inv .1) (entry h .pre .whole)
 
-within-at : (d : tie.After-decide Inv-loop μ-loop) → Within (length (headOf (d .before .before .before .before .before .before .before .before .before .before .before .before .before .before .before) .loop .ram)) 16 (d .decide .result .effect)
-within-at d = let h = headOf (d .before .before .before .before .before .before .before .before .before .before .before .before .before .before .before) in decided-fits (whole-at h) _ _ (h .loop .rows) (h .loop .inv .6) (d .decide .ensures)
+within-at : (d : tie.After-decide Inv-loop μ-loop) → Within (length (headOf (d .before .before .before .before .before .before .before .before .before .before .before .before .before .before .before .before .before .before .before .before .before) .loop .ram)) 16 (d .decide .result .effect)
+within-at d = let h = headOf (d .before .before .before .before .before .before .before .before .before .before .before .before .before .before .before .before .before .before .before .before .before) in decided-fits (whole-at h) _ _ (h .loop .rows) (h .loop .inv .6) (d .decide .ensures)
 
 -- what the look asked, and what it says of a step that is taken
 abbrev asks : Head → Bool
@@ -129,6 +135,13 @@ once-at c = let h = head c in sym (halts-ahead (partsAt h) (entry h .args .setti
 
 left-of : (c : After) → head c .loop .steps < entry (head c) .args .budget
 left-of c = goes-at c .left
+
+-- what is remembered when the step is decided
+abbrev pagesAt : After → List ℕ
+pagesAt c = followed c .follow .last .0
+
+known-at : (c : After) → Known (pagesAt c) (head c .loop .rows) (length (entry (head c) .args .ram .now))
+known-at c = rw (head c .loop .inv .1) at (followed c .follow .ensures)
 
 -- The turn's statement, the effect that the arm knows and what is left of the budget take the run one step on, or end it.
 module _ (c : After) where
@@ -172,7 +185,7 @@ module _ (c : After) where
   same = rw (h .loop .inv .3)
 
   module _ {e : Effect} (told : d .effect ≡ e) (rows : List Row) (put : rowsAfter e (h .loop .rows) ≡ rows) (long : length rows ≡ 16) (limit : ℕ)
-      (next : NextLook rows (h .loop .steps + 1) (a .args .budget) limit) where
+      (next : NextLook rows (h .loop .steps + 1) (a .args .budget) limit) (pages : List ℕ) (true-of : Known pages rows (length (a .args .ram .now))) where
     abbrev there : Config (forward roms)
     there = configOf roms (a .args .settings) (turns.withRows rows partsThen) besideThen
 
@@ -191,6 +204,7 @@ module _ (c : After) where
         × (length (partsThen .core) ≡ 14)
         × HoldsZero (partsThen .regs)
         × (length (besideThen .index) ≡ length (a .args .index .now))
+        × Known pages rows (length (a .args .ram .now))
         × Reached (forward roms) (slotsOf (a .args .journal .now)) (a .args .budget) (a .args .stop) from (h .loop .steps + 1) there
 
     again : (a .args .stop && enters e) ≡ false → Onward
@@ -206,19 +220,20 @@ module _ (c : After) where
           turn-is .fourteen,
           applied-zero _ 16 (finished c .finish .ensures .0) (within-at (decided c)) (i .8),
           index-long ∙ i .9,
-          turns.goes _ _ (a .args .stop) turn-is same told rows left-rows from (h .loop .steps) (left-of c) (i .10) (once-at c) q,
+          true-of,
+          turns.goes _ _ (a .args .stop) turn-is same told rows left-rows from (h .loop .steps) (left-of c) (i .11) (once-at c) q,
         )
 
     onward : enters e ≡ false → Onward
     onward quiet = again (rw quiet (and-false (a .args .stop)))
 
     ends : (a .args .stop && enters e) ≡ true → ring.run (forward roms) (slotsOf (a .args .journal .now)) (a .args .budget) (a .args .stop) from ≡ ended there (h .loop .steps + 1) excepted
-    ends q = turns.ends _ _ (a .args .stop) turn-is same told rows left-rows from (h .loop .steps) (left-of c) (h .loop .inv .10) (once-at c) q
+    ends q = turns.ends _ _ (a .args .stop) turn-is same told rows left-rows from (h .loop .steps) (left-of c) (h .loop .inv .11) (once-at c) q
 
 -- an effect that sets no row
 stays : (c : After) {e : Effect} (told : decided c .decide .result .effect ≡ e) (same : rowsAfter e (head c .loop .rows) ≡ head c .loop .rows) → enters e ≡ false →
-    Onward c told (head c .loop .rows) same (head c .loop .inv .6) (looked c .looked .result .limit) (goes-at c .next)
-stays c told same quiet = onward c told (head c .loop .rows) same (head c .loop .inv .6) (looked c .looked .result .limit) (goes-at c .next) quiet
+    Onward c told (head c .loop .rows) same (head c .loop .inv .6) (looked c .looked .result .limit) (goes-at c .next) (pagesAt c) (known-at c)
+stays c told same quiet = onward c told (head c .loop .rows) same (head c .loop .inv .6) (looked c .looked .result .limit) (goes-at c .next) (pagesAt c) (known-at c) quiet
 
 next-look-requires : tie.Need-next-look-requires Inv-loop μ-loop
 next-look-requires c κs = search needs
@@ -226,7 +241,7 @@ next-look-requires c κs = search needs
 loop-holds : tie.Need-loop-holds Inv-loop μ-loop
 loop-holds c =
     let start = c .before .before .before .before .before .before .before .before .before .before .before .before .before in
-    (next-look _ 0 _ _ (omega arith) (c .next-look .ensures), refl, refl, refl, start .pre .told, start .pre .ready, start .pre .table, start .pre .fourteen, start .pre .zero, refl, reached-start _ _ _ _ _)
+    (next-look _ 0 _ _ (omega arith) (c .next-look .ensures), refl, refl, refl, start .pre .told, start .pre .ready, start .pre .table, start .pre .fourteen, start .pre .zero, refl, knows-none _ _, reached-start _ _ _ _ _)
 
 looked-requires : tie.Need-looked-requires Inv-loop μ-loop
 looked-requires c κs =
@@ -247,10 +262,16 @@ start-requires c κs =
 core-in-requires : tie.Need-core-in-requires Inv-loop μ-loop
 core-in-requires c κs = search needs
 
+follow-requires : tie.Need-follow-requires Inv-loop μ-loop
+follow-requires c κs =
+    let h = headOf (c .before .before .before .before .before .before .before .before .before .before .before .before .before .before .before .before) in
+    (whole-at h .ram .few, rw (h .loop .inv .1) (h .loop .inv .10))
+
 decide-requires : tie.Need-decide-requires Inv-loop μ-loop
 decide-requires c κs =
-    let h = headOf (c .before .before .before .before .before .before .before .before .before .before .before .before .before .before) in
-    (whole-at h, h .loop .inv .8)
+    let followed = c .before .before .before in
+    let h = headOf (followed .before .before .before .before .before .before .before .before .before .before .before .before .before .before .before .before .before) in
+    (whole-at h, (h .loop .inv .8, followed .follow .ensures))
 
 old-row-requires : tie.Need-old-row-requires Inv-loop μ-loop
 old-row-requires c κs = search needs
@@ -258,7 +279,7 @@ old-row-requires c κs = search needs
 finish-requires : tie.Need-finish-requires Inv-loop μ-loop
 finish-requires c κs =
     let decided = c .before .before .before .before .before .before .before in
-    let started = decided .before .before .before .before .before .before .before .before .before in
+    let started = decided .before .before .before .before .before .before .before .before .before .before .before .before .before .before .before in
     let h = headOf (started .before .before .before .before .before .before) in
     let framed = entry h .pre .framed in
     let long = h .loop .inv .9 in
@@ -276,7 +297,7 @@ loop-less c = omega (arith, left-of (c .before .before .before))
 loop-again : tie.Need-loop-again Inv-loop μ-loop
 loop-again c =
     let m = c .before .before .before in
-    again m (c .before .enum-told .given .1) (head m .loop .rows) refl (head m .loop .inv .6) (looked m .looked .result .limit) (goes-at m .next) (rw (c .if2 .left))
+    again m (c .before .enum-told .given .1) (head m .loop .rows) refl (head m .loop .inv .6) (looked m .looked .result .limit) (goes-at m .next) (pagesAt m) (known-at m) (rw (c .if2 .left))
 
 enum-known-effect : tie.Need-enum-known-effect Inv-loop μ-loop
 enum-known-effect c = search needs
@@ -304,7 +325,7 @@ loop-again-2 c =
     let left = left-of m in
     onward m told (wrote .write .result) (sym (wrote .write .ensures ∙ written-row rows _ few _))
     (ap (λ (l : List Row). length l) (wrote .write .ensures) ∙ length-written rows _ _ ∙ head m .loop .inv .6) (c .next-look2 .result)
-    (next-look (wrote .write .result) (head m .loop .steps + 1) _ (c .next-look2 .result) (omega arith) (c .next-look2 .ensures)) refl
+    (next-look (wrote .write .result) (head m .loop .steps + 1) _ (c .next-look2 .result) (omega arith) (c .next-look2 .ensures)) _ (knows-none (wrote .write .result) _) refl
 
 enum-told-2 : tie.Need-enum-told-2 Inv-loop μ-loop
 enum-told-2 c = search needs
@@ -396,7 +417,7 @@ returns c =
     let h = headOf asked in
     sym
     (look-ends (h .loop .rows) (h .loop .steps) (h .loop .limit) (entry h .args .budget) (asks h) (asked .looked .result) (asked .looked .ensures) (h .loop .inv .0) _ _ _ _ _
-    (h .loop .inv .10) (sym (halts-ahead (partsAt h) (entry h .args .settings) (besideAt h))) (c .if1 .taken))
+    (h .loop .inv .11) (sym (halts-ahead (partsAt h) (entry h .args .settings) (besideAt h))) (c .if1 .taken))
 
 same-length-5 : tie.Need-same-length-5 Inv-loop μ-loop
 same-length-5 c = let m = c .before .before .before in finished m .finish .kept .1 .1 .1 .1 .1 .1 .1 .1 .1 .0 ∙ head m .loop .inv .1
@@ -413,7 +434,7 @@ same-length-8 c = let m = c .before .before .before in index-long m ∙ head m .
 returns-2 : tie.Need-returns-2 Inv-loop μ-loop
 returns-2 c =
     let m = c .before .before .before in
-    sym (ends m (c .before .enum-told .given .1) (head m .loop .rows) refl (head m .loop .inv .6) (looked m .looked .result .limit) (goes-at m .next) (rw (c .if2 .taken)))
+    sym (ends m (c .before .enum-told .given .1) (head m .loop .rows) refl (head m .loop .inv .6) (looked m .looked .result .limit) (goes-at m .next) (pagesAt m) (known-at m) (rw (c .if2 .taken)))
 
 pub spin-spec : {M : Type 1} → statement M
 spin-spec =
@@ -426,6 +447,7 @@ spin-spec =
     looked-requires
     start-requires
     core-in-requires
+    follow-requires
     decide-requires
     old-row-requires
     finish-requires

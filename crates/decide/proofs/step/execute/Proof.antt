@@ -16,7 +16,7 @@ sizes-requires : tie.Need-sizes-requires
 sizes-requires c κs = search needs
 
 intend-requires : tie.Need-intend-requires
-intend-requires c κs = search needs
+intend-requires c κs = let start = c .before .before .before .before .before in (start .pre .1 .0, rw (c .sizes .ensures) (start .pre .1 .1))
 
 settle-requires : tie.Need-settle-requires
 settle-requires c κs =
@@ -24,7 +24,7 @@ settle-requires c κs =
     let sixteen : length (start .args .rows) ≡ 16 = search needs in
     let rows : 0 < length (start .args .rows) = omega (arith, sixteen) in
     let asks = intent-asks _ _ (start .pre .0) rows _ _ (start .args .word) (c .before .before .decode .ensures) (c .before .sizes .ensures) (c .intend .ensures) in
-    (rw sixteen at asks, start .pre .1)
+    (rw sixteen at asks, start .pre .1 .0)
 
 returns : tie.Need-returns
 unfolding executeOf
