@@ -52,15 +52,15 @@ module _ (status entry a : ℕ) where
 
   key-page : keyOf status entry a / 4096 ≡ a / 4096
   unfolding keyOf
-  key-page = made-page (a / 4096) (entry / 64 % 64) (status / 2 % 2) (omega arith) (omega arith)
+  key-page = made-page _ _ _ (omega arith) (omega arith)
 
   key-asid : keyOf status entry a / 64 % 64 ≡ entry / 64 % 64
   unfolding keyOf
-  key-asid = made-asid (a / 4096) (entry / 64 % 64) (status / 2 % 2) (omega arith) (omega arith)
+  key-asid = made-asid _ _ _ (omega arith) (omega arith)
 
   key-user : keyOf status entry a / 2 % 2 ≡ status / 2 % 2
   unfolding keyOf
-  key-user = made-user (a / 4096) (entry / 64 % 64) (status / 2 % 2) (omega arith) (omega arith)
+  key-user = made-user _ _ _ (omega arith) (omega arith)
 
   sought-page : soughtOf a entry / 4096 ≡ a / 4096
   sought-page = omega arith
