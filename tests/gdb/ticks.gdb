@@ -11,6 +11,7 @@ stepi
 info registers pc
 continue
 print ticks
+reverse-step
 delete
 watch total
 reverse-continue
