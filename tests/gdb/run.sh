@@ -67,9 +67,9 @@ session() {
     timeout "${limit:-120}" gdb-multiarch -q -nx -batch "$elf" "$@" > "$name.out" 2>&1 || true
 }
 
-# NAME ELF STATION: the session says what is expected.
+# NAME ELF STATION: the session says what is expected. Words behind the third are the stub.
 says() {
-    session "$1" "$2" "$3"
+    session "$@"
     python3 "$here/check.py" "$here/$1.expected" "$1.out" || { cat "$1.out" >&2; fail "$1.gdb says something else"; }
     echo "gdb: $1: $(grep -c . "$here/$1.expected") lines as expected"
 }
@@ -99,6 +99,8 @@ for name in ticks watch save attach writes monitor; do
 done
 station t small
 says interrupt ticks.elf t
+station t ticks
+says stands ticks.elf t python3 "$here/wrong.py" early lavushmir-gdb
 
 # A stub that stands between and changes nothing is not noticed; each fault is.
 job_done
@@ -110,9 +112,11 @@ job_done
 notices silent story import.elf job
 station t ticks
 notices endless ticks ticks.elf t
+station t ticks
+notices deaf stands ticks.elf t
 station t small
 limit=15
-notices deaf interrupt ticks.elf t
+notices unbroken interrupt ticks.elf t
 limit=120
 station t ticks
 session save ticks.elf t python3 "$here/wrong.py" forgets lavushmir-gdb

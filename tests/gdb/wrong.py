@@ -3,7 +3,9 @@
     wrong.py FAULT PROGRAM STATION
 
 late      a watch stops behind the store and not before it
-deaf      a 0x03 that comes while the machine stands is dropped
+early     no fault: a 0x03 comes while the machine stands, behind 20 steps
+deaf      the same, and it is dropped
+unbroken  a 0x03 of gdb is dropped
 endless   it does not say where the journal begins
 forgets   detach does not save
 silent    a watch never hits
@@ -61,12 +63,17 @@ def from_stub():
 
 
 last_watch = b''
+steps = 0
 
 
 def heard(packet):
     """What the stub is told in place of a packet."""
-    global last, last_watch
+    global last, last_watch, steps
     last = packet
+    if packet.startswith(b'vCont;s'):
+        steps += 1
+        if fault == 'early' and steps == 21:
+            to_stub(b'\x03')
     if packet.startswith(b'Z2,'):
         last_watch = packet[3:]
         if fault == 'silent':
@@ -94,7 +101,7 @@ def from_gdb():
             elif rest[:1] == b'$':
                 break
             else:
-                if not (fault == 'deaf' and rest[:1] == b'\x03'):
+                if not (fault == 'unbroken' and rest[:1] == b'\x03'):
                     to_stub(rest[:1])
                 rest = rest[1:]
     stub.stdin.close()
