@@ -2,11 +2,13 @@
 
 FOLDER holds the programs lavushmir and lavushmir-gdb as station/build.sh makes
 them; INPUTS is a file of inputs, each behind its length (four bytes, the lowest
-first). Every input is given to a session of its own, on a copy of a small station.
-The program ends by itself, with a status of include/station.h, and says whole
-packets only. Programs that are wrong on purpose must be noticed. Only the
-standard library."""
+first). Every input is given to a session of its own, on a copy of a small station:
+every other one in writes of one byte, each of which is a read of its own. The
+program ends by itself, with a status of include/station.h, and says whole packets
+only. Programs that are wrong on purpose must be noticed. Only the standard
+library."""
 import collections
+import concurrent.futures
 import os
 import select
 import shutil
@@ -20,6 +22,10 @@ SECONDS = 60
 # So long says a program nothing that waits for more.
 QUIET = 0.3
 STATUSES = range(5)
+# A session waits for most of its time.
+AT_ONCE = 8
+# Longer ones are not given byte by byte: half a packet is heard anew with each.
+MOST_CUT = 8000
 
 WRONG = {
     "ends by a signal": "import os; os.kill(os.getpid(), 11)",
@@ -51,21 +57,20 @@ def whole_packets(said):
     return packets
 
 
-def talk(program, given, until):
+def talk(program, pipe, given, most, until):
     """All that the program says. The pipe stays open until it says no more, as gdb's does: what is not used yet when
-    the input ends is not answered."""
+    the input ends is not answered. Each write has up to `most` bytes."""
     said = bytearray()
     given = memoryview(given)
-    os.set_blocking(program.stdin.fileno(), False)
     is_open = True
     while True:
         if time.time() > until:
             raise TimeoutError
-        wants = [program.stdin] if is_open and len(given) else []
+        wants = [pipe] if is_open and len(given) else []
         readable, writable, _ = select.select([program.stdout], wants, [], QUIET)
         try:
             if writable:
-                given = given[os.write(program.stdin.fileno(), given[:4096]):]
+                given = given[os.write(pipe.fileno(), given[:most]):]
         except BrokenPipeError:
             given = given[:0]
         if readable:
@@ -75,25 +80,25 @@ def talk(program, given, until):
             said += part
         elif not writable and is_open:
             is_open = False
-            close(program.stdin)
-    if is_open:
-        close(program.stdin)
+            pipe.close()
     return bytes(said)
 
 
-def close(stream):
-    try:
-        stream.close()
-    except BrokenPipeError:
-        pass
+def pipe_of_parts():
+    """A pipe whose reader gets each write by itself."""
+    reads, writes = os.pipe2(os.O_DIRECT | os.O_CLOEXEC)
+    os.set_blocking(writes, False)
+    return open(reads, "rb", buffering=0), open(writes, "wb", buffering=0)
 
 
-def trouble(command, given, seconds, met):
+def trouble(command, given, most, seconds, met):
     """What is wrong with a program's end, or None."""
-    with tempfile.TemporaryFile() as errors:
-        program = subprocess.Popen(command, stdin=subprocess.PIPE, stdout=subprocess.PIPE, stderr=errors)
+    reads, pipe = pipe_of_parts()
+    with tempfile.TemporaryFile() as errors, pipe:
+        with reads:
+            program = subprocess.Popen(command, stdin=reads, stdout=subprocess.PIPE, stderr=errors)
         try:
-            said = talk(program, given, time.time() + seconds)
+            said = talk(program, pipe, given, most, time.time() + seconds)
             status = program.wait(timeout=seconds)
         except (subprocess.TimeoutExpired, TimeoutError):
             program.kill()
@@ -118,7 +123,7 @@ def trouble(command, given, seconds, met):
 
 def noticed():
     for name, text in WRONG.items():
-        found = trouble([sys.executable, "-c", text], b"", 3, collections.Counter())
+        found = trouble([sys.executable, "-c", text], b"", 1, 3, collections.Counter())
         if found is None:
             print("packets: NOT NOTICED: a program that %s" % name)
             return False
@@ -139,7 +144,6 @@ def make_station(folder, work):
                           stdout=subprocess.PIPE, stderr=subprocess.STDOUT)
     if done.returncode != 0:
         sys.exit("pipe.py: no station: %s" % done.stdout.decode(errors="replace"))
-    return os.path.join(work, "S")
 
 
 def inputs(name):
@@ -151,23 +155,46 @@ def inputs(name):
             yield file.read(struct.unpack("<I", length)[0])
 
 
+def session(folder, work, number, given):
+    """What is wrong with one session, or None; and what was met in it."""
+    met = collections.Counter(sessions=1)
+    is_cut = number % 2 == 1 and len(given) <= MOST_CUT
+    met["sessions cut at every byte"] += is_cut
+    met["bytes given"] += len(given)
+    copy = os.path.join(work, "copy%d" % number)
+    shutil.copytree(os.path.join(work, "S"), copy)
+    found = trouble([os.path.join(folder, "lavushmir-gdb"), copy], given, 1 if is_cut else 4096, SECONDS, met)
+    shutil.rmtree(copy, ignore_errors=True)
+    if found is not None:
+        found = "input %d: %s\n%r" % (number, found, given[:600])
+    return found, met
+
+
+def sessions(folder, work, name):
+    """The first trouble, or None; and what was met."""
+    met = collections.Counter()
+    with concurrent.futures.ThreadPoolExecutor(AT_ONCE) as pool:
+        waits = [pool.submit(session, folder, work, number, given) for number, given in enumerate(inputs(name), 1)]
+        for wait in concurrent.futures.as_completed(waits):
+            found, one = wait.result()
+            met += one
+            if found is not None:
+                pool.shutdown(cancel_futures=True)
+                return found, met
+    return None, met
+
+
 def main():
     folder, name = os.path.abspath(sys.argv[1]), sys.argv[2]
-    met = collections.Counter()
     with tempfile.TemporaryDirectory() as work:
-        station = make_station(folder, work)
-        copy = os.path.join(work, "copy")
-        for number, given in enumerate(inputs(name), 1):
-            shutil.rmtree(copy, ignore_errors=True)
-            shutil.copytree(station, copy)
-            found = trouble([os.path.join(folder, "lavushmir-gdb"), copy], given, SECONDS, met)
-            if found is not None:
-                print("packets: lavushmir-gdb, input %d: %s\n%r" % (number, found, given[:600]))
-                return 1
-            met["sessions"] += 1
+        make_station(folder, work)
+        found, met = sessions(folder, work, name)
+    if found is not None:
+        print("packets: lavushmir-gdb, " + found)
+        return 1
     for what in sorted(met):
         print("packets: lavushmir-gdb: %d %s" % (met[what], what))
-    if met["replies"] < met["sessions"] or not noticed():
+    if met["replies"] < met["sessions"] or not met["sessions cut at every byte"] or not noticed():
         return 1
     print("packets: lavushmir-gdb: all as it must be, all %d wrong programs noticed" % len(WRONG))
     return 0

@@ -2,8 +2,9 @@
 //!
 //! `packets [INPUTS [SEED]]`. Exit 0: all as it must be, all counts met, and every
 //! stub that is wrong on purpose noticed; 1: not so.
-//! `packets write INPUTS SEED FILE` writes inputs for the program lavushmir-gdb:
-//! each has its length before it, four bytes, the lowest first.
+//! `packets write INPUTS SEED FILE` writes inputs for the program lavushmir-gdb, up
+//! to 30 for a session: what a session gets has its length before it, four bytes, the
+//! lowest first.
 //!
 //! For every input, whatever it is: each turn returns, wants what include/station.h
 //! names, uses no more bytes than were sent and says no more than there is room for;
@@ -55,26 +56,47 @@ use std::process::exit;
 const DEFAULT_INPUTS: u64 = 10_000;
 const DEFAULT_SEED: u64 = 1;
 
+/// Whether a packet in it may end the session: what comes behind is for the next one,
+/// since nobody would hear it.
+fn may_end(bytes: &[u8]) -> bool {
+    let has = |word: &[u8]| bytes.windows(word.len()).any(|part| part == word);
+    has(b"$k") || has(b"$D") || has(b"$vKill")
+}
+
+/// What one session gets, of at most `most` inputs, and how many these are.
+fn for_session(dice: &mut Dice, most: u64) -> (Vec<u8>, u64) {
+    let mut bytes = Vec::new();
+    let least = most.min(dice.between(1, 30).into());
+    for count in 1..=least {
+        let input = damage::input(dice).bytes;
+        bytes.extend(&input);
+        if dice.chance(4) {
+            bytes.extend(b"#00");
+        }
+        // Ends a run, if there is one.
+        if dice.chance(2) {
+            bytes.push(3);
+        }
+        if may_end(&input) {
+            return (bytes, count);
+        }
+    }
+    (bytes, least)
+}
+
 fn write(inputs: u64, seed: u64) {
     let file = std::env::args().nth(4).expect("a file to write to");
     let mut all = Vec::new();
-    for number in 1..=inputs {
-        let dice = &mut Dice::of(seed, number);
-        let mut bytes = Vec::new();
-        for _ in 0..dice.between(1, 30) {
-            bytes.extend(damage::input(dice).bytes);
-            if dice.chance(4) {
-                bytes.extend(b"#00");
-            }
-            // Ends a run, if there is one.
-            if dice.chance(2) {
-                bytes.push(3);
-            }
-        }
+    let (mut written, mut sessions) = (0, 0);
+    while written < inputs {
+        sessions += 1;
+        let (bytes, count) = for_session(&mut Dice::of(seed, sessions), inputs - written);
+        written += count;
         all.extend((bytes.len() as u32).to_le_bytes());
         all.extend(bytes);
     }
     std::fs::write(&file, all).expect("the file is written");
+    println!("packets: for lavushmir-gdb: {written} inputs in {sessions} sessions");
 }
 
 fn main() {
