@@ -1,7 +1,7 @@
 // What a call answers: done with steps and a stop reason, or one of document 01's refusals.
 ghost use mathlib.Core.Path.{_≡_};
 ghost use Prim.Native.Nat.{_<_};
-ghost use Rattle.answer.specs.Answer.{reasonNumber, refusalNumber, packedOf};
+ghost use Rattle.answer.specs.Answer.{reasonNumber, refusalNumber, numberOf, packedOf};
 
 pub mod lent; // the lengths of what is lent
 
@@ -74,6 +74,16 @@ pub fn packed(answer: Answer) -> u64
 {
     match answer {
         Answer::Done(steps, reason) => done_packed(steps, reason),
+        Answer::Refused(refusal) => refusal_number(refusal),
+    }
+}
+
+// The number of documents 01 and 02; 0 where nothing is refused.
+pub fn refused(answer: Answer) -> u64
+    ensures { λ r. ⌜ r ≡ numberOf answer ⌝ }
+{
+    match answer {
+        Answer::Done(_, _) => 0,
         Answer::Refused(refusal) => refusal_number(refusal),
     }
 }

@@ -7,7 +7,7 @@ use crate::culprit::read_step;
 use crate::culprit::seen;
 use answer::Answer;
 use answer::Refusal;
-use answer::packed;
+use answer::refused;
 use backward::take_back;
 use forward::run;
 use inquiry::reading::word_at;
@@ -15,11 +15,6 @@ use lastwrite::last_write;
 use message::blame::Culprit;
 use session::work::Asked;
 use session::work::Worked;
-
-// The number of documents 01 and 02; 0 where nothing is refused.
-fn refused(answer: Answer) -> u64 {
-    packed(answer) % 0x100
-}
 
 fn ran(
     image: &mut [u8],

@@ -1,6 +1,7 @@
 // Numbers and bytes as gdb's packets write them: in base 16, with no mark before them.
 use text::digit;
 use text::put_digit;
+use text::smaller;
 
 // What was read: the value modulo 2^64, and the place behind the last digit. That is where it was looked for if there is no digit.
 pub struct Digits {
@@ -122,11 +123,4 @@ pub fn gather(packet: &mut [u8], from: usize) -> usize {
 
 fn wide(byte: u8) -> u64 {
     byte as u64
-}
-
-fn smaller(a: usize, b: usize) -> usize {
-    if a < b {
-        return a;
-    }
-    b
 }

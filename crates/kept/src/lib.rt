@@ -1,6 +1,7 @@
 // What a piece of a run overwrites, beside RAM and paper, which taking back restores: the image, the index, and the slots of the journal from the next one on.
 ghost use Prim.Native.Nat.{_≤_};
 ghost use lib.ListN.{length};
+use text::smaller;
 
 // The parts of the lent buffer.
 const INDEX: usize = 512;
@@ -8,15 +9,6 @@ const INDEX: usize = 512;
 const SLOTS: usize = 66048;
 
 const SLOT: usize = 256;
-
-fn smaller(a: usize, b: usize) -> usize
-    ensures { λ r. ⌜ (r ≤ a) × (r ≤ b) ⌝ }
-{
-    if a < b {
-        return a;
-    }
-    b
-}
 
 fn lay(from: &[u8], to: &mut [u8])
     requires { ⌜ length (now from) ≤ length (now to) ⌝ }

@@ -165,7 +165,7 @@ fn reset(session: &mut [u64; 256], out: &mut [u8], image: &mut [u8], index: &mut
     let delay = image::word(image, image::DELAY);
     let installed = image::word(image, image::INSTALLED);
     let answer = reset::reset(image, index, scale, delay, installed);
-    if running::refused(answer) != 0 {
+    if answer::refused(answer) != 0 {
         return text(out, 0, NOT_RESET);
     }
     session[CHANGED] = 1;

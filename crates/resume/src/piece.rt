@@ -2,7 +2,7 @@
 // whole, what it overwrote is put back, and exactly the steps before the stop are run: the same as if it had stopped there (demand 3), with no step on hand lost.
 use answer::Answer;
 use answer::Reason;
-use answer::packed;
+use answer::refused;
 use backward::take_back;
 use hits::forward::Stop;
 use hits::forward::first;
@@ -78,11 +78,6 @@ fn whole(session: &mut [u64; 256], steps: usize, reason: Reason) -> Next {
         }
         _ => goes_on(session),
     }
-}
-
-// The number of documents 01 and 02; 0 where nothing is refused.
-fn refused(answer: Answer) -> u64 {
-    packed(answer) % 0x100
 }
 
 fn stopped(session: &mut [u64; 256], stop: Stop, answer: Answer) -> Next {

@@ -1,15 +1,10 @@
 // run, stepi: some steps, until an exception or two matches stop them. new: a reset, and a run of no steps that judges what was made.
 use answer::Answer;
 use answer::Reason;
-use answer::packed;
+use answer::refused;
 use session::work::Settings;
 use session::work::Work;
 use session::work::Worked;
-
-// The number of documents 01 and 02; 0 where nothing is refused.
-pub fn refused(answer: Answer) -> u64 {
-    packed(answer) % 0x100
-}
 
 fn budget(work: Work) -> u64 {
     match work {

@@ -14,3 +14,4 @@ pub use crate::write::put_digit;
 pub use crate::write::put_grouped;
 pub use crate::write::put_hex;
 pub use crate::write::put_signed;
+pub use crate::write::smaller;

@@ -107,3 +107,13 @@ pub fn put_byte(out: &mut [u8], at: usize, byte: u8) -> usize
     out[at] = byte;
     at + 1
 }
+
+// As much as both have.
+pub fn smaller(a: usize, b: usize) -> usize
+    ensures { λ r. ⌜ (r ≤ a) × (r ≤ b) ⌝ }
+{
+    if a < b {
+        return a;
+    }
+    b
+}

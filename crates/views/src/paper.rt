@@ -1,11 +1,5 @@
 // paper: what a printer printed.
-
-fn smaller(a: usize, b: u64) -> usize {
-    if a as u64 <= b {
-        return a;
-    }
-    b as usize
-}
+use text::smaller;
 
 fn part(out: &mut [u8], paper: &[u8], n: u64, from: usize, count: usize) -> usize {
     if paper.len() < from {
@@ -44,6 +38,9 @@ pub fn show(out: &mut [u8], image: &[u8], paper: &[u8], printer: u64) -> usize {
         return 0;
     }
     let eighth = paper.len() / 8;
-    let count = smaller(eighth, image::word(image, n * 5 + image::PRINTERS + 4));
+    let count = smaller(
+        eighth,
+        image::word(image, n * 5 + image::PRINTERS + 4) as usize,
+    );
     part(out, paper, n as u64, start(eighth, n), count)
 }

@@ -1,6 +1,6 @@
 // new: whether a station can be made, before its files are there.
+use answer::refused;
 use forms::kinds::Fresh;
-use running::refused;
 use session::work::Worked;
 
 // What reset says of the three parameters.

@@ -1,6 +1,6 @@
 // back, reverse-stepi: some of the newest steps are taken back.
 use answer::Answer;
-use running::refused;
+use answer::refused;
 use session::work::Worked;
 
 fn told(answer: Answer) -> Worked {
