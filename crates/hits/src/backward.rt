@@ -1,10 +1,10 @@
 // The newest stop among the steps on hand, going back. A watched byte is still as it is now behind the newest step that changed it, so RAM says what it was then.
-use crate::record::is_store;
-use crate::record::old;
-use crate::record::pc;
-use crate::record::place;
-use crate::record::present;
-use crate::record::slot_of;
+use crate::says::is_store;
+use crate::says::old;
+use crate::says::pc;
+use crate::says::place;
+use crate::says::present;
+use crate::says::slot_of;
 use crate::watched::change;
 use crate::watched::may_hold;
 use points::breaks;
@@ -38,7 +38,7 @@ pub fn watched(session: &[u64; 256], journal: &[u8], ram: &[u8], slot: usize) ->
 
 // The stop at the k-th newest step: it is still done for a watch, and taken back for a breakpoint.
 fn at(session: &[u64; 256], journal: &[u8], ram: &[u8], next: usize, k: usize) -> Stop {
-    let slot = slot_of(journal.len() / 256, next, k);
+    let slot = slot_of(journal, next, k);
     let watch = watched(session, journal, ram, slot);
     if watch != 0 {
         return Stop {

@@ -1,10 +1,10 @@
 // The first stop among some steps that were just run. It lies before a step: where its PC stops the run, or where it changes a watched byte.
-use crate::record::is_store;
-use crate::record::old;
-use crate::record::pc;
-use crate::record::place;
-use crate::record::present;
-use crate::record::slot_of;
+use crate::says::is_store;
+use crate::says::old;
+use crate::says::pc;
+use crate::says::place;
+use crate::says::present;
+use crate::says::slot_of;
 use crate::watched::change;
 use crate::watched::may_hold;
 use points::breaks;
@@ -37,11 +37,10 @@ pub fn stops_at(session: &[u64; 256], pc: u32) -> bool {
 
 // The word at a place behind the k-th newest step: what the next step that wrote it found there, or what RAM holds.
 fn after(journal: &[u8], ram: &[u8], next: usize, k: usize, at: u32) -> u32 {
-    let slots = journal.len() / 256;
     let mut left = k;
     while 1 < left {
         left -= 1;
-        let slot = slot_of(slots, next, left);
+        let slot = slot_of(journal, next, left);
         if is_store(journal, slot) & (place(journal, slot) == at) {
             return old(journal, slot);
         }
@@ -51,7 +50,7 @@ fn after(journal: &[u8], ram: &[u8], next: usize, k: usize, at: u32) -> u32 {
 
 // The address, plus 1, of a watched byte that the k-th newest step changed; 0 where there is none.
 fn watched(session: &[u64; 256], journal: &[u8], ram: &[u8], next: usize, k: usize) -> u64 {
-    let slot = slot_of(journal.len() / 256, next, k);
+    let slot = slot_of(journal, next, k);
     if !is_store(journal, slot) {
         return 0;
     }
@@ -68,7 +67,7 @@ fn stops_before(session: &[u64; 256], journal: &[u8], next: usize, k: usize, cou
     if k == count {
         return false;
     }
-    stops_at(session, pc(journal, slot_of(journal.len() / 256, next, k)))
+    stops_at(session, pc(journal, slot_of(journal, next, k)))
 }
 
 fn nothing() -> Stop {

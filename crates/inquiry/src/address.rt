@@ -4,15 +4,14 @@ use cp0::privilege::mode_of;
 use reach::Reached;
 use reach::access::Access;
 use reach::translate::Translated;
+use state::IMAGE;
 use state::decode::decode;
 
 const ADEL: u32 = 4;
 
-const IMAGE_BYTES: usize = 509;
-
 // An address that the machine itself would use: through privilege and table.
 pub fn through_table(image: &[u8], access: Access, sizes: Sizes, address: u32) -> Reached {
-    if image.len() != IMAGE_BYTES {
+    if image.len() != IMAGE {
         return Reached::Exception {
             miss: false,
             code: ADEL,
@@ -29,7 +28,7 @@ pub fn through_table(image: &[u8], access: Access, sizes: Sizes, address: u32) -
 
 // Whether two entries of the table match, so that a run stops before the access.
 pub fn meets_two(image: &[u8], access: Access, address: u32) -> bool {
-    if image.len() != IMAGE_BYTES {
+    if image.len() != IMAGE {
         return false;
     }
     let machine = decode(image);

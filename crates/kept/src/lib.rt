@@ -1,14 +1,14 @@
 // What a piece of a run overwrites, beside RAM and paper, which taking back restores: the image, the index, and the slots of the journal from the next one on.
 ghost use Prim.Native.Nat.{_≤_};
 ghost use lib.ListN.{length};
+use journal::SLOT;
+use state::IMAGE;
 use text::smaller;
 
-// The parts of the lent buffer.
-const INDEX: usize = 512;
+// The parts of the lent buffer, behind the image: the index, which has at most 16 bytes for each of 4,096 frames, and the slots.
+const INDEX: usize = IMAGE;
 
-const SLOTS: usize = 66048;
-
-const SLOT: usize = 256;
+const SLOTS: usize = INDEX + 65536;
 
 fn lay(from: &[u8], to: &mut [u8])
     requires { ⌜ length (now from) ≤ length (now to) ⌝ }

@@ -1,6 +1,7 @@
 // A packet, by its first byte, and the reply to it.
 use hex::gather;
 use hex::spread;
+use journal::SLOT;
 use monitor::monitor;
 use replies::inserts;
 use replies::plain;
@@ -215,7 +216,7 @@ pub fn answer(
             packet,
             image,
             ram.len(),
-            journal.len() / 256,
+            journal.len() / SLOT,
         ),
     }
 }

@@ -10,10 +10,9 @@ use hex::put_pair;
 use reach::access::Kind;
 use reach::translate::Translated;
 use reach::translate::translate;
+use state::IMAGE;
 use state::decode::decode;
 use tlb::Row;
-
-const IMAGE_BYTES: usize = 509;
 
 // The table and the ASID, and whether addresses below 0x80000000 go through it too. From there on all do: nothing physical is there.
 pub struct Eyes {
@@ -42,7 +41,7 @@ fn blind() -> Eyes {
 
 // A user program has no addresses below 0x80000000, so there they are the kernel's own, who uses them with translation off.
 pub fn look(image: &[u8]) -> Eyes {
-    if image.len() != IMAGE_BYTES {
+    if image.len() != IMAGE {
         return blind();
     }
     let machine = decode(image);

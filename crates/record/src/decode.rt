@@ -5,6 +5,10 @@ ghost use lib.ListN.{length};
 ghost use Rattle.word.specs.Lists.{tabulate};
 ghost use Rattle.state.specs.Layout.{cp0From, coreFrom};
 ghost use Rattle.record.specs.Layout.{slotWord, paperAt, savedAt, printerAt, recordOf};
+use crate::KIND;
+use crate::OLD;
+use crate::PC;
+use crate::PLACE;
 use crate::Record;
 use crate::Saved;
 use cp0::registers::Cp0;
@@ -46,7 +50,7 @@ fn core(slot: &[u8]) -> Core
     Core {
         hi: word(slot, 0),
         lo: word(slot, 1),
-        pc: word(slot, 2),
+        pc: word(slot, PC),
         next_pc: word(slot, 3),
         cp0: cp0(slot),
         slot: word(slot, 12),
@@ -88,9 +92,9 @@ pub fn saved(slot: &[u8]) -> Saved
     ensures { λ r. ⌜ r ≡ recordOf (now (slot .entry)) .saved ⌝ }
 {
     saved_by(
-        word(slot, 19),
-        word(slot, 20),
-        word(slot, 21),
+        word(slot, KIND),
+        word(slot, PLACE),
+        word(slot, OLD),
         word(slot, 22),
     )
 }

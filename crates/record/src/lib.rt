@@ -8,6 +8,18 @@ use printer::saved::SavedPaper;
 use state::machine::Core;
 use tlb::Row;
 
+// The words of a record that are also asked for one by one: where PC stands, the kind of what was saved, and of a word of RAM its place and old value.
+pub const PC: usize = 2;
+
+pub const KIND: usize = 19;
+
+pub const PLACE: usize = 20;
+
+pub const OLD: usize = 21;
+
+// The kind of a word of RAM.
+pub const RAM: u32 = 3;
+
 // What the step's effect overwrites beside the small words.
 pub enum Saved {
     Nothing,

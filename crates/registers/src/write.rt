@@ -4,6 +4,7 @@ use crate::numbers::COUNT;
 use crate::numbers::PC;
 use crate::numbers::is_read_only;
 use crate::numbers::word_of;
+use state::IMAGE;
 use word::big::put_word;
 
 // The words behind those that have a name in the crate image.
@@ -16,7 +17,7 @@ fn set(image: &mut [u8], k: usize, value: u64) {
     if image::WORDS <= k {
         return;
     }
-    if image.len() != 509 {
+    if image.len() != IMAGE {
         return;
     }
     put_word(image, 4 * k + 5, (value % 0x1_0000_0000) as u32);

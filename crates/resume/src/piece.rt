@@ -7,6 +7,7 @@ use backward::take_back;
 use hits::forward::Stop;
 use hits::forward::first;
 use hits::forward::stops_at;
+use journal::SLOT;
 use kept::keep;
 use kept::put_back;
 use points::breaks;
@@ -105,7 +106,7 @@ fn replayed(
     kept: &[u8],
     before: u64,
 ) -> Answer {
-    let length = length(session, journal.len() / 256);
+    let length = length(session, journal.len() / SLOT);
     put_back(image, journal, index, kept, length);
     forward::run(
         image,
@@ -168,7 +169,7 @@ fn looked(
     steps: usize,
     reason: Reason,
 ) -> Next {
-    if is_plain(session) | (journal.len() < 256) {
+    if is_plain(session) | (journal.len() < SLOT) {
         return whole(session, steps, reason);
     }
     let next = image::word(image, image::NEXT_SLOT) as usize;
@@ -259,7 +260,7 @@ fn run(
     index: &mut [u8],
     kept: &mut [u8],
 ) -> Next {
-    let length = length(session, journal.len() / 256);
+    let length = length(session, journal.len() / SLOT);
     kept_for(session, image, journal, index, kept, length);
     ran(
         session,

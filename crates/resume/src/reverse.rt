@@ -4,7 +4,7 @@ use backward::take_back;
 use hits::backward::Stop;
 use hits::backward::newest;
 use hits::backward::watched;
-use hits::record::slot_of;
+use hits::says::slot_of;
 use stub::Next;
 use stub::words::BUS;
 use stub::words::CHANGED;
@@ -71,7 +71,7 @@ fn one(session: &[u64; 256], image: &[u8], ram: &[u8], journal: &[u8], hand: u64
         };
     }
     let next = image::word(image, image::NEXT_SLOT) as usize;
-    let slot = slot_of(journal.len() / 256, next, 1);
+    let slot = slot_of(journal, next, 1);
     let watch = watched(session, journal, ram, slot);
     let steps = if watch == 0 { 1 } else { 0 };
     Stop {

@@ -8,6 +8,11 @@ ghost use Rattle.seek.specs.Pcs as Pcs;
 ghost use Rattle.seek.specs.Seek.{hasWord, writesOf, pcOf, lastChangeOf, newestAtOf, oldestAtOf};
 use journal::SLOT;
 use memory::load_word;
+use record::KIND;
+use record::OLD;
+use record::PC;
+use record::PLACE;
+use record::RAM;
 use record::decode::word;
 
 // The k-th newest step on hand, 1 being the newest, with the word before and after it.
@@ -51,20 +56,20 @@ fn word_before(slot: &[u8], place: u32, after: u32) -> u32
     requires { ⌜ length (now slot) ≡ 256 ⌝ }
     ensures { λ r. ⌜ r ≡ wordBefore place (writesOf (now (slot .entry))) after ⌝ }
 {
-    if word(slot, 19) != 3 {
+    if word(slot, KIND) != RAM {
         return after;
     }
-    if word(slot, 20) != place {
+    if word(slot, PLACE) != place {
         return after;
     }
-    word(slot, 21)
+    word(slot, OLD)
 }
 
 fn pc_at(journal: &[u8], next: u32, k: u32) -> u32
     requires { ⌜ Fits (now journal) k next ⌝ }
     ensures { λ r. ⌜ r ≡ pcOf (kthOf (now (journal .entry)) next k) ⌝ }
 {
-    word(record_at(journal, next, k), 2)
+    word(record_at(journal, next, k), PC)
 }
 
 // Up to the step that changed it the word is the present one, so none is tracked.

@@ -5,10 +5,10 @@ use Rattle.hits.proofs.forward.after.Statement.{statement}
 use Rattle.hits.proofs.forward.after.Tie as tie
 
 abbrev Inv-loop : tie.InvT-loop
-Inv-loop journal ram next k at slots left₀ left = 0 ≤ left
+Inv-loop journal ram next k at left₀ left = 0 ≤ left
 
 abbrev μ-loop : tie.MeasureT-loop
-μ-loop journal ram next k at slots left₀ left = left
+μ-loop journal ram next k at left₀ left = left
 
 loop-holds : tie.Need-loop-holds Inv-loop μ-loop
 loop-holds c = search needs

@@ -1,36 +1,33 @@
 // What the record of a step says (docs/RECORD.md).
+use journal::SLOT;
 use memory::load_word;
-
-pub const SLOT: usize = 256;
-
-// The words of a record.
-const PC: usize = 2;
-
-const KIND: usize = 19;
-
-const PLACE: usize = 20;
-
-const OLD: usize = 21;
-
-const RAM: u32 = 3;
+use record::KIND;
+use record::OLD;
+use record::PC;
+use record::PLACE;
+use record::RAM;
 
 // Word k of the record in a slot; 0 where there is no such slot.
 fn word(journal: &[u8], slot: usize, k: usize) -> u32 {
     if journal.len() / SLOT <= slot {
         return 0;
     }
-    if 64 <= k {
+    if SLOT / 4 <= k {
         return 0;
     }
     load_word(journal, slot * SLOT + 4 * k)
 }
 
-// The slot of the k-th newest step, where `next` is the next slot.
-pub fn slot_of(slots: usize, next: usize, k: usize) -> usize {
-    if k <= next {
-        return next - k;
+// The slot of the k-th newest step, where `next` is the next slot; one that is not there for numbers that no image has that was accepted.
+pub fn slot_of(journal: &[u8], next: usize, k: usize) -> usize {
+    let slots = journal.len() / SLOT;
+    if slots <= next {
+        return slots;
     }
-    std::num::wrapping_sub_usize(std::num::wrapping_add_usize(next, slots), k)
+    if slots < k {
+        return slots;
+    }
+    ring::slot_back(slots, next, k)
 }
 
 pub fn pc(journal: &[u8], slot: usize) -> u32 {
