@@ -34,7 +34,7 @@ fn nothing(from: usize, to: usize) -> u64 {
     0
 }
 
-pub fn states(out: &mut [u8], at: usize, image: &[u8], other: &[u8]) -> usize {
+fn states(out: &mut [u8], at: usize, image: &[u8], other: &[u8]) -> usize {
     let from = fill_row(
         out,
         at,
@@ -89,14 +89,14 @@ fn counting(here: &[u8], there: &[u8]) -> Difference {
 }
 
 // What is said of two buffers: the first, second or third of their rows in the table below, and its two values.
-pub struct Judged {
+struct Judged {
     row: u64,
     a: u64,
     b: u64,
 }
 
 // `from` is the address of the first byte.
-pub fn judge(here: &[u8], there: &[u8], from: u64) -> Judged {
+fn judge(here: &[u8], there: &[u8], from: u64) -> Judged {
     if here.len() != there.len() {
         return Judged {
             row: 0,
@@ -131,8 +131,27 @@ fn part(out: &mut [u8], at: usize, row: u64, v: Judged) -> usize {
     )
 }
 
-pub fn bytes(out: &mut [u8], at: usize, ram: Judged, paper: Judged, journal: Judged) -> usize {
+fn bytes(out: &mut [u8], at: usize, ram: Judged, paper: Judged, journal: Judged) -> usize {
     let at = part(out, at, ram.row % 3, ram);
     let at = part(out, at, paper.row % 3 + 3, paper);
     part(out, at, journal.row % 3 + 6, journal)
+}
+
+// In what a station differs from another.
+pub fn stations(
+    out: &mut [u8],
+    image: &[u8],
+    ram: &[u8],
+    paper: &[u8],
+    journal: &[u8],
+    other_image: &[u8],
+    other_ram: &[u8],
+    other_paper: &[u8],
+    other_journal: &[u8],
+) -> usize {
+    let ram = judge(ram, other_ram, 0x2000_0000);
+    let paper = judge(paper, other_paper, 0);
+    let journal = judge(journal, other_journal, 0);
+    let at = states(out, 0, image, other_image);
+    bytes(out, at, ram, paper, journal)
 }

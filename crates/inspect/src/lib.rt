@@ -23,7 +23,50 @@ pub fn show_register(reply: &mut [u8], packet: &[u8], image: &[u8]) -> usize {
     registers::show::one(reply, 0, image, n as usize)
 }
 
-// G and the digits of all registers. Answers whether they could be read; `kept` has the image as it was.
+// What came of a write of registers into the image.
+enum Outcome {
+    Refused,
+    Nothing,
+    Changed,
+}
+
+fn changed(is_changed: bool) -> Outcome {
+    if is_changed {
+        return Outcome::Changed;
+    }
+    Outcome::Nothing
+}
+
+// G and the digits of all registers.
+fn wrote_all(packet: &[u8], image: &mut [u8], kept: &mut [u8]) -> Outcome {
+    if packet.len() != 8 * COUNT + 1 {
+        return Outcome::Refused;
+    }
+    host::keep(image, kept);
+    changed(registers::write::all(image, packet))
+}
+
+// P N=DIGITS
+fn wrote_one(packet: &[u8], image: &mut [u8], kept: &mut [u8]) -> Outcome {
+    let register = number(packet, 1);
+    let n = (register.value % 256) as usize;
+    let value = hex::word(packet, register.to % 0x1_0000_0000 + 1);
+    if (byte(packet, register.to) != b'=') | (0xFFFF_FFFF < value) | is_read_only(n) {
+        return Outcome::Refused;
+    }
+    host::keep(image, kept);
+    changed(registers::write::one(image, n, value))
+}
+
+// `kept` has the image as it was, where something is written.
+fn wrote(packet: &[u8], image: &mut [u8], kept: &mut [u8]) -> Outcome {
+    if byte(packet, 0) == b'G' {
+        return wrote_all(packet, image, kept);
+    }
+    wrote_one(packet, image, kept)
+}
+
+// G, P: what the machine does not take is refused, and the image is as it was.
 pub fn write_registers(
     session: &mut [u64; 256],
     reply: &mut [u8],
@@ -37,63 +80,25 @@ pub fn write_registers(
     index: &mut [u8],
     kept: &mut [u8],
 ) -> usize {
-    if packet.len() != 8 * COUNT + 1 {
-        return refused(reply);
+    let outcome = wrote(packet, image, kept);
+    match outcome {
+        Outcome::Refused => refused(reply),
+        Outcome::Nothing => done(reply),
+        Outcome::Changed => {
+            let is_done = host::judged(
+                session,
+                image,
+                execution,
+                bootstrap,
+                ram,
+                paper,
+                journal,
+                index,
+                kept,
+            );
+            said(reply, is_done)
+        }
     }
-    host::keep(image, kept);
-    if !registers::write::all(image, packet) {
-        return done(reply);
-    }
-    let is_done = host::judged(
-        session,
-        image,
-        execution,
-        bootstrap,
-        ram,
-        paper,
-        journal,
-        index,
-        kept,
-    );
-    said(reply, is_done)
-}
-
-// P N=DIGITS
-pub fn write_register(
-    session: &mut [u64; 256],
-    reply: &mut [u8],
-    packet: &[u8],
-    image: &mut [u8],
-    execution: &[u8],
-    bootstrap: &[u8],
-    ram: &mut [u8],
-    paper: &mut [u8],
-    journal: &mut [u8],
-    index: &mut [u8],
-    kept: &mut [u8],
-) -> usize {
-    let register = number(packet, 1);
-    let n = (register.value % 256) as usize;
-    let value = hex::word(packet, register.to % 0x1_0000_0000 + 1);
-    if (byte(packet, register.to) != b'=') | (0xFFFF_FFFF < value) | is_read_only(n) {
-        return refused(reply);
-    }
-    host::keep(image, kept);
-    if !registers::write::one(image, n, value) {
-        return done(reply);
-    }
-    let is_done = host::judged(
-        session,
-        image,
-        execution,
-        bootstrap,
-        ram,
-        paper,
-        journal,
-        index,
-        kept,
-    );
-    said(reply, is_done)
 }
 
 // m ADDRESS,LENGTH

@@ -1,8 +1,5 @@
 // A packet, by its first byte, and the reply to it.
-use hex::gather;
-use hex::spread;
 use journal::SLOT;
-use monitor::monitor;
 use replies::inserts;
 use replies::plain;
 use replies::queries;
@@ -11,98 +8,17 @@ use stub::Next;
 use stub::packet::begins;
 use stub::packet::byte;
 
-// The first `count` bytes of a packet are a line for the station.
-fn said(
-    session: &mut [u64; 256],
-    reply: &mut [u8],
-    packet: &[u8],
-    count: usize,
-    image: &mut [u8],
-    execution: &[u8],
-    bootstrap: &[u8],
-    ram: &mut [u8],
-    paper: &mut [u8],
-    journal: &mut [u8],
-    index: &mut [u8],
-) -> usize {
-    if packet.len() < count {
-        return 0;
-    }
-    let line = &packet[0..count];
-    monitor(
-        session,
-        line,
-        reply,
-        image,
-        execution,
-        bootstrap,
-        ram,
-        paper,
-        journal,
-        index,
-    )
-}
-
-// qRcmd: a line for the station. What it says comes back as digits.
-fn command(
-    session: &mut [u64; 256],
-    reply: &mut [u8],
-    packet: &mut [u8],
-    image: &mut [u8],
-    execution: &[u8],
-    bootstrap: &[u8],
-    ram: &mut [u8],
-    paper: &mut [u8],
-    journal: &mut [u8],
-    index: &mut [u8],
-) -> Next {
-    let count = gather(packet, 6);
-    let said = said(
-        session,
-        reply,
-        packet,
-        count,
-        image,
-        execution,
-        bootstrap,
-        ram,
-        paper,
-        journal,
-        index,
-    );
-    if said == 0 {
-        return Next::Reply(plain::done(reply));
-    }
-    Next::Reply(spread(reply, said))
-}
-
-// What changes memory or moves the machine back, and monitor.
+// What changes memory or moves the machine back, and questions.
 fn moves(
     session: &mut [u64; 256],
     reply: &mut [u8],
     packet: &mut [u8],
     image: &mut [u8],
-    execution: &[u8],
-    bootstrap: &[u8],
     ram: &mut [u8],
     paper: &mut [u8],
-    journal: &mut [u8],
+    journal: &[u8],
     index: &mut [u8],
 ) -> Next {
-    if begins(packet, b"qRcmd,") {
-        return command(
-            session,
-            reply,
-            packet,
-            image,
-            execution,
-            bootstrap,
-            ram,
-            paper,
-            journal,
-            index,
-        );
-    }
     match byte(packet, 0) {
         b'M' => Next::Reply(inspect::write_digits(session, reply, packet, image, ram, index)),
         b'X' => Next::Reply(inspect::write_bytes(session, reply, packet, image, ram, index)),
@@ -171,33 +87,11 @@ pub fn answer(
     kept: &mut [u8],
 ) -> Next {
     match byte(packet, 0) {
-        b'M' | b'X' | b'b' | b'q' => moves(
-            session,
-            reply,
-            packet,
-            image,
-            execution,
-            bootstrap,
-            ram,
-            paper,
-            journal,
-            index,
-        ),
+        b'M' | b'X' | b'b' | b'q' => {
+            moves(session, reply, packet, image, ram, paper, journal, index)
+        }
         b'm' => Next::Reply(inspect::read(reply, packet, image, execution, bootstrap, ram)),
-        b'G' => Next::Reply(inspect::write_registers(
-            session,
-            reply,
-            packet,
-            image,
-            execution,
-            bootstrap,
-            ram,
-            paper,
-            journal,
-            index,
-            kept,
-        )),
-        b'P' => Next::Reply(inspect::write_register(
+        b'G' | b'P' => Next::Reply(inspect::write_registers(
             session,
             reply,
             packet,

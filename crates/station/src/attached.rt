@@ -1,4 +1,7 @@
-// One turn of a session with gdb: the call for C.
+// One turn of a session with gdb: it is heard what there is to do, the machine does it, and gdb is told what came of it.
+use gdb::hear::hear;
+use gdb::tell::tell;
+use serve::perform;
 
 #[no_mangle]
 pub extern "C" fn station_gdb_turn(
@@ -17,13 +20,12 @@ pub extern "C" fn station_gdb_turn(
     index: &mut [u8],
     kept: &mut [u8],
 ) -> u64 {
-    gdb::turn(
+    let task = hear(session, event, input, packet);
+    let next = perform(
+        task,
         session,
-        event,
-        input,
-        out,
-        packet,
         reply,
+        packet,
         image,
         execution,
         bootstrap,
@@ -32,5 +34,6 @@ pub extern "C" fn station_gdb_turn(
         journal,
         index,
         kept,
-    )
+    );
+    tell(session, out, reply, image, task, next)
 }

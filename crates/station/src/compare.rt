@@ -15,10 +15,16 @@ pub extern "C" fn station_compare_turn(
     other_paper: &[u8],
     other_journal: &[u8],
 ) -> u64 {
-    let ram = differ::judge(ram, other_ram, 0x2000_0000);
-    let paper = differ::judge(paper, other_paper, 0);
-    let journal = differ::judge(journal, other_journal, 0);
-    let at = differ::states(out, 0, image, other_image);
-    let at = differ::bytes(out, at, ram, paper, journal);
+    let at = differ::stations(
+        out,
+        image,
+        ram,
+        paper,
+        journal,
+        other_image,
+        other_ram,
+        other_paper,
+        other_journal,
+    );
     answer(session, Then::Ask, out, at)
 }

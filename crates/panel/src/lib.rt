@@ -6,8 +6,7 @@ use session::answer::answer;
 use views::show;
 use work::perform;
 
-#[no_mangle]
-pub extern "C" fn station_panel_turn(
+pub fn turn(
     session: &mut [u64; 32],
     event: u64,
     input: &[u8],
