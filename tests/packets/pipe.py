@@ -3,10 +3,10 @@
 FOLDER holds the programs lavushmir and lavushmir-gdb as station/build.sh makes
 them; INPUTS is a file of inputs, each behind its length (four bytes, the lowest
 first). Every input is given to a session of its own, on a copy of a small station:
-every other one in writes of one byte, each of which is a read of its own. The
-program ends by itself, with a status of include/station.h, and says whole packets
-only. Programs that are wrong on purpose must be noticed. Only the standard
-library."""
+every other one, if it is not long, in writes of one byte, each of which is a read
+of its own. The program ends by itself, with a status of include/station.h, and
+says whole packets only. Programs that are wrong on purpose must be noticed. Only
+the standard library."""
 import collections
 import concurrent.futures
 import os
