@@ -6,6 +6,9 @@
 # ARCHIVE is the x86-64 archive, a file named liblavushmir.a. With --strict, a
 # ratio above 2.0 is an error.
 #
+# Needs cargo and the Debian package gcc-mipsel-linux-gnu; instructions are
+# counted where valgrind is installed.
+#
 # On Arm the program is run by qemu-x86_64, see tests/archive.sh. Its figures
 # then tell of qemu's code, not of the archive's.
 set -eu
@@ -18,7 +21,17 @@ fi
 use_archive lavushmir "$1"
 shift
 cd "$(dirname "$0")"
+folder=$(mktemp -d)
+trap 'rm -rf "$folder"' EXIT
+here=../tests/programs
+. "$here/build.sh"
+both_roms
+for source in crc sha sieve sort matrix; do
+    build "$source.O2" "$source" emit_buffer -O2
+done
+build import.O1 import emit_buffer -O1
 if [ "$(uname -m)" = aarch64 ]; then
     echo "on qemu-x86_64: the figures are of its code, and no measure of the archive"
 fi
-run_program "$@"
+run_program "$folder" "$@"
+echo "other emulators: not run; umps3 starts a machine from its window only, and gxemul did not end by itself"

@@ -2,12 +2,15 @@
 
 use crate::station::Station;
 use reference::{decode, encode, reset, Entry, Machine, Status, IMAGE_BYTES};
+use std::rc::Rc;
 
 const RAM: u32 = 0x2000_0000;
 const FRAME: u32 = 0x1000;
-const FRAMES: u32 = 32;
 
-/// The pages of the translated loop; entry n maps page n.
+/// Of RAM, where nothing else is said.
+pub const FRAMES: u32 = 32;
+
+/// The pages of the translated loops; entry n maps page n.
 const PAGES: u32 = 0xC000_0000;
 const CODE_PAGE: u32 = 7;
 
@@ -18,59 +21,74 @@ const PRINTCHR: u32 = 2;
 /// loop's 19 steps that each is busy for 98 of 100 steps.
 const PRINTER_DELAY: u64 = 1000;
 
+/// Data lie in the frames behind the code's own, under register 16.
 pub struct Loop {
     pub name: &'static str,
     code: &'static [u32],
-    set_up: fn(&mut Machine),
+    /// For what a loop has in its registers besides.
+    set_up: fn(&mut Machine, frames: u32),
 }
 
-pub const LOOPS: [Loop; 4] = [
-    Loop { name: "arithmetic", code: &ARITHMETIC, set_up: |_| {} },
-    Loop { name: "memory", code: &MEMORY, set_up: data_in_ram },
-    Loop { name: "translation on", code: &TRANSLATED, set_up: data_in_pages },
-    Loop { name: "eight printers", code: &PRINTING, set_up: printers_at_hand },
+pub const LOOPS: [Loop; 3] = [
+    Loop { name: "arithmetic", code: &ARITHMETIC, set_up: |_, _| {} },
+    Loop { name: "memory", code: &MEMORY, set_up: |_, _| {} },
+    Loop { name: "hopping", code: &HOPPING, set_up: |_, _| {} },
 ];
+
+/// It prints by physical address, so that translation is nothing to it.
+pub const PRINTING: Loop =
+    Loop { name: "eight printers", code: &PRINTING_CODE, set_up: printers_at_hand };
+
+/// Over all of RAM, however small it is.
+pub const WALKING: Loop = Loop { name: "walk over RAM", code: &WALKING_CODE, set_up: all_of_ram };
 
 impl Loop {
     /// The machine before the loop's first step.
-    pub fn station(&self, slots: usize) -> Station {
-        let (mut image, mut index) = (vec![0; IMAGE_BYTES], vec![0; 16 * FRAMES as usize]);
+    pub fn station(&self, translated: bool, slots: usize, frames: u32) -> Station {
+        let (mut image, mut index) = (vec![0; IMAGE_BYTES], vec![0; 16 * frames as usize]);
         reset(&mut image, &mut index, 1, PRINTER_DELAY, 0xFF);
         let mut machine = decode(&image);
         machine.status = Status(0);
         machine.pc = RAM;
-        (self.set_up)(&mut machine);
+        if translated {
+            translate(&mut machine, frames);
+        }
         machine.next_pc = machine.pc + 4;
+        machine.registers[16] = machine.pc + FRAME;
+        (self.set_up)(&mut machine, frames);
         encode(&machine, &mut image);
         // Not 0, so that no page of a buffer is met for the first time in a
         // timed run.
-        let mut ram = vec![1; (FRAMES * FRAME) as usize];
+        let mut ram = vec![1; (frames * FRAME) as usize];
         for (place, word) in ram.chunks_exact_mut(4).zip(self.code) {
             place.copy_from_slice(&word.to_le_bytes());
         }
-        Station { image, ram, paper: vec![1; 65_536], journal: vec![1; 256 * slots], index }
+        let (paper, journal) = (vec![1; 65_536], vec![1; 256 * slots]);
+        let roms = Rc::new([vec![0; 256], vec![0; 256]]);
+        Station { image, roms, ram, paper, journal, index }
     }
-}
-
-fn data_in_ram(machine: &mut Machine) {
-    machine.registers[16] = RAM + FRAME;
 }
 
 /// All sixteen entries are in use. The code's page is mapped by one in the
 /// middle, and the data lie in the eight pages behind it.
-fn data_in_pages(machine: &mut Machine) {
+fn translate(machine: &mut Machine, frames: u32) {
     machine.status = Status(0x0100_0000);
     for (number, entry) in (0..).zip(&mut machine.tlb) {
-        let frame = (number + FRAMES - CODE_PAGE) % FRAMES;
+        let frame = (number + frames - CODE_PAGE) % frames;
         *entry = Entry { high: PAGES + number * FRAME, low: (RAM + frame * FRAME) | 0x600 };
     }
     machine.pc = PAGES + CODE_PAGE * FRAME;
-    machine.registers[16] = machine.pc + FRAME;
 }
 
-fn printers_at_hand(machine: &mut Machine) {
+fn printers_at_hand(machine: &mut Machine, _: u32) {
     machine.registers[16] = PRINTERS;
     machine.registers[17] = PRINTCHR;
+}
+
+/// The lower half of each frame is left alone, since the code lies in one.
+fn all_of_ram(machine: &mut Machine, frames: u32) {
+    machine.registers[16] = RAM;
+    machine.registers[17] = (frames * FRAME - 1) & !0x803;
 }
 
 const ARITHMETIC: [u32; 15] = [
@@ -91,13 +109,15 @@ const ARITHMETIC: [u32; 15] = [
     0x004F_1827, // nor   $3, $2, $15
 ];
 
+/// Over 32 KiB, with another page every fifth time round; no access of one time
+/// round leaves the page of the first.
 const MEMORY: [u32; 17] = [
     0x0208_5821, // addu  $11, $16, $8
     0x8D69_0000, // lw    $9, 0($11)
-    0x2508_0304, // addiu $8, $8, 0x304
+    0x2508_0344, // addiu $8, $8, 0x344
     0x0128_4821, // addu  $9, $9, $8
     0xAD69_0004, // sw    $9, 4($11)
-    0x3108_EFFC, // andi  $8, $8, 0xeffc
+    0x3108_7FDC, // andi  $8, $8, 0x7fdc
     0x916A_0009, // lbu   $10, 9($11)
     0x856C_000E, // lh    $12, 14($11)
     0xA16A_0008, // sb    $10, 8($11)
@@ -111,7 +131,8 @@ const MEMORY: [u32; 17] = [
     0x8D6E_0014, // lw    $14, 20($11)
 ];
 
-const TRANSLATED: [u32; 13] = [
+/// Another page of eight with every fourth access.
+const HOPPING: [u32; 13] = [
     0x0208_5821, // addu  $11, $16, $8
     0x8D69_0000, // lw    $9, 0($11)
     0x2508_1010, // addiu $8, $8, 0x1010
@@ -128,7 +149,7 @@ const TRANSLATED: [u32; 13] = [
 ];
 
 /// Starts each printer again and again; a busy one takes no notice.
-const PRINTING: [u32; 19] = [
+const PRINTING_CODE: [u32; 19] = [
     0x2508_0001, // addiu $8, $8, 1
     0xAE11_0004, // sw    $17, 4($16)
     0x0128_4821, // addu  $9, $9, $8
@@ -148,4 +169,15 @@ const PRINTING: [u32; 19] = [
     0xAE08_0008, // sw    $8, 8($16)
     0x1000_FFEE, // beq   $0, $0, -18
     0x012F_4821, // addu  $9, $9, $15
+];
+
+/// A load and a store in another frame each time round.
+const WALKING_CODE: [u32; 7] = [
+    0x2508_1144, // addiu $8, $8, 0x1144
+    0x0111_4824, // and   $9, $8, $17
+    0x0209_5821, // addu  $11, $16, $9
+    0x8D6A_0800, // lw    $10, 0x800($11)
+    0x0148_5021, // addu  $10, $10, $8
+    0x1000_FFFA, // beq   $0, $0, -6
+    0xAD6A_0800, // sw    $10, 0x800($11)
 ];

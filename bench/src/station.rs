@@ -1,6 +1,7 @@
 //! A machine and its buffers.
 
 use reference::Answer;
+use std::rc::Rc;
 
 /// The archive's run and the reference's are both of this type.
 pub type Run = fn(
@@ -15,9 +16,14 @@ pub type Run = fn(
     stop: u64,
 ) -> Answer;
 
+/// The longest run that one call may be asked for.
+pub const MOST_BUDGET: u64 = 1_000_000;
+
 #[derive(Clone)]
 pub struct Station {
     pub image: Vec<u8>,
+    /// Execution ROM and bootstrap ROM.
+    pub roms: Rc<[Vec<u8>; 2]>,
     pub ram: Vec<u8>,
     pub paper: Vec<u8>,
     pub journal: Vec<u8>,
@@ -25,19 +31,37 @@ pub struct Station {
 }
 
 impl Station {
-    pub fn run(&mut self, run: Run, budget: u32) -> Answer {
-        let (execution_rom, bootstrap_rom) = ([0; 256], [0; 256]);
+    fn call(&mut self, run: Run, budget: u64, stop: u64) -> Answer {
+        let [execution_rom, bootstrap_rom] = &*self.roms;
         run(
             &mut self.image,
-            &execution_rom,
-            &bootstrap_rom,
+            execution_rom,
+            bootstrap_rom,
             &mut self.ram,
             &mut self.paper,
             &mut self.journal,
             &mut self.index,
-            budget.into(),
-            1,
+            budget,
+            stop,
         )
+    }
+
+    /// To the end of the next step that enters an exception, or of the budget.
+    pub fn to_exception(&mut self, run: Run) -> Answer {
+        self.call(run, MOST_BUDGET, 1)
+    }
+
+    /// So many steps, in as few calls as may be; the last call's answer, with
+    /// the steps of all.
+    pub fn run(&mut self, run: Run, steps: u64) -> (Answer, u64) {
+        let mut done = 0;
+        loop {
+            let answer = self.call(run, (steps - done).min(MOST_BUDGET), 0);
+            done += u64::from(answer.steps);
+            if done == steps || u64::from(answer.steps) < MOST_BUDGET {
+                return (answer, done);
+            }
+        }
     }
 
     /// Copies without new buffers, so that timed runs find the same memory.

@@ -9,24 +9,9 @@ set -eu
 
 folder=$1
 here=$(cd "$(dirname "$0")" && pwd)
-cc="mipsel-linux-gnu-gcc -march=mips1 -mabi=32 -EL -msoft-float -mno-abicalls -fno-pic -G0
-    -ffreestanding -fno-builtin -fno-tree-loop-distribute-patterns -nostdlib -static
-    -Wall -Wextra -Werror -Wl,--build-id=none,-z,max-page-size=4096"
+. "$here/build.sh"
 # A trap under qemu is expected and leaves no core file.
 ulimit -c 0
-
-# rom NAME BASE
-rom() {
-    $cc -Wl,-e,_start,-Ttext="$2" "$here/machine/$1.S" -o "$folder/$1.elf"
-    mipsel-linux-gnu-objcopy -O binary -j .text "$folder/$1.elf" "$folder/$1.rom"
-    rm "$folder/$1.elf"
-}
-
-# build NAME SOURCE EMIT FLAGS
-build() {
-    $cc $4 -T "$here/machine/program.ld" "$here/machine/start.S" "$here/c/$2.c" "$here/c/main.c" \
-        "$here/c/output.c" "$here/c/$3.c" "$here/c/random.c" "$here/c/memory.c" -o "$folder/$1.elf"
-}
 
 # expect NAME: what qemu says of it.
 expect() {
@@ -35,8 +20,7 @@ expect() {
     echo "$status" > "$folder/$1.status"
 }
 
-rom bootstrap 0x1FC00000
-rom execution 0
+both_roms
 for source in sort crc sha sieve format matrix recurse import pack wide narrow divide limits rare; do
     for level in O0 O1 O2 Os; do
         build "$source.$level" "$source" emit_buffer "-$level"
