@@ -4,7 +4,8 @@ use crate::exception::{
     Exception, ADDRESS_LOAD, ADDRESS_STORE, BUS_DATA, BUS_FETCH, MODIFICATION, TLB_LOAD, TLB_STORE,
 };
 use crate::machine::Machine;
-use crate::tlb::{search, DIRTY, PAGE, VALID};
+use crate::pages::{Page, Pages};
+use crate::tlb::{search, ASID, DIRTY, PAGE, VALID};
 
 /// Below this an address is never translated and never open to user mode.
 const TRANSLATED_FROM: u32 = 0x2000_0000;
@@ -63,6 +64,7 @@ impl From<Exception> for Stop {
 #[inline]
 pub fn route(
     machine: &Machine,
+    pages: &mut Pages,
     address: u32,
     bytes: u32,
     access: Access,
@@ -72,7 +74,12 @@ pub fn route(
         return Err(access.address_error(address).into());
     }
     if machine.status.virtual_memory() && address >= TRANSLATED_FROM {
-        return translated(machine, address, access, second);
+        let page = pages.of(access);
+        let wanted = address & PAGE | machine.entry_hi & ASID;
+        if !page.is(wanted) {
+            *page = looked_for(machine, address, access, second)?;
+        }
+        return translated(page.low, address, access);
     }
     Ok(address)
 }
@@ -84,20 +91,28 @@ fn allowed(machine: &Machine, address: u32) -> bool {
     !status.user_mode() || address >= open_from
 }
 
-/// Apart, so that the way without translation stays short.
+/// Apart, so that the ways without a search stay short. A page that two entries
+/// match is nothing to remember, also where the step is taken all the same.
 #[inline(never)]
-fn translated(
+fn looked_for(
     machine: &Machine,
     address: u32,
     access: Access,
     second: Second,
-) -> Result<u32, Stop> {
+) -> Result<Page, Stop> {
     let found = search(&machine.tlb, address, machine.entry_hi)
         .ok_or_else(|| Exception::miss(access.table_code(), address))?;
-    if found.second && second == Second::Stops {
-        return Err(Stop::TwoMatches);
-    }
     let low = machine.tlb[found.number].low;
+    match (found.second, second) {
+        (false, _) => Ok(Page::found(address & PAGE | machine.entry_hi & ASID, low)),
+        (true, Second::IsPassedBy) => Ok(Page::once(low)),
+        (true, Second::Stops) => Err(Stop::TwoMatches),
+    }
+}
+
+/// V and D are looked at with each access, whatever the page was found for.
+#[inline]
+fn translated(low: u32, address: u32, access: Access) -> Result<u32, Stop> {
     if low & VALID == 0 {
         return Err(Exception::at(access.table_code(), address).into());
     }

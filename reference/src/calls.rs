@@ -7,6 +7,7 @@ use crate::image::{decode, encode, IMAGE_BYTES};
 use crate::look::{look, Instruction};
 use crate::machine::Machine;
 use crate::memory::Memory;
+use crate::pages::Pages;
 use crate::printer::READY;
 use crate::record::{NoRecord, Recorder};
 use crate::rules::keeps_rules;
@@ -16,6 +17,7 @@ use crate::sizes::{
 };
 use crate::status::Status;
 use crate::step::take;
+use crate::word::{opcode, COP0};
 
 pub fn reset(
     image: &mut [u8],
@@ -122,13 +124,19 @@ pub(crate) fn run_steps(
     let mut machine = decode(image);
     let stops = stop_at_exceptions != 0;
     let budget = budget as u32;
+    let mut pages = Pages::none();
     let mut steps = 0;
     let reason = loop {
         if steps == budget {
             break BUDGET_SPENT;
         }
-        let coming = match look(&machine, &memory, Second::Stops) {
-            Ok(instruction) => Ok(instruction),
+        let coming = match look(&machine, &memory, &mut pages, Second::Stops) {
+            Ok(instruction) => {
+                if opcode(instruction.word) == COP0 {
+                    pages.forget();
+                }
+                Ok(instruction)
+            }
             Err(Stop::Raised(exception)) => Err(exception),
             Err(Stop::TwoMatches) => break TWO_MATCHES,
         };

@@ -9,7 +9,7 @@ use crate::look::Instruction;
 use crate::machine::Machine;
 use crate::memory::Memory;
 use crate::record::Recorder;
-use crate::word::{opcode, rs, rt, signed_immediate, unsigned_immediate};
+use crate::word::{opcode, rs, rt, signed_immediate, unsigned_immediate, COP0};
 
 /// Executes an instruction and moves PC on. An instruction that raises an exception
 /// has changed nothing.
@@ -32,7 +32,7 @@ pub fn execute<R: Recorder>(
             machine.set_register(recorder, rt(word), result);
             Way::On
         }
-        0x10 => {
+        COP0 => {
             cop0(machine, recorder, word)?;
             Way::On
         }

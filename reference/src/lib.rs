@@ -24,6 +24,7 @@ mod load_store;
 mod look;
 mod machine;
 mod memory;
+mod pages;
 mod printer;
 mod record;
 mod rom;

@@ -9,6 +9,7 @@ use crate::address::{route, Access, Second, Stop};
 use crate::exception::{Exception, INTERRUPT, IP_PRINTERS, IP_TIMER};
 use crate::machine::Machine;
 use crate::memory::Memory;
+use crate::pages::Pages;
 use crate::word::{opcode, rs, signed_immediate};
 
 /// What is to be executed.
@@ -20,18 +21,24 @@ pub struct Instruction {
 
 /// Whether a run stops before the step to come.
 pub fn step_meets_two(machine: &Machine, memory: &Memory) -> bool {
-    matches!(look(machine, memory, Second::Stops), Err(Stop::TwoMatches))
+    let coming = look(machine, memory, &mut Pages::none(), Second::Stops);
+    matches!(coming, Err(Stop::TwoMatches))
 }
 
 /// The instruction, or what comes in its place.
 #[inline]
-pub fn look(machine: &Machine, memory: &Memory, second: Second) -> Result<Instruction, Stop> {
+pub fn look(
+    machine: &Machine,
+    memory: &Memory,
+    pages: &mut Pages,
+    second: Second,
+) -> Result<Instruction, Stop> {
     if interrupts(machine) {
         return Err(Exception::plain(INTERRUPT).into());
     }
-    let place = route(machine, machine.pc, 4, Access::Fetch, second)?;
+    let place = route(machine, pages, machine.pc, 4, Access::Fetch, second)?;
     let word = memory.word(place).ok_or(Access::Fetch.bus_error())?;
-    let place = load_or_store(machine, word, second)?;
+    let place = load_or_store(machine, pages, word, second)?;
     Ok(Instruction { word, place })
 }
 
@@ -55,7 +62,12 @@ const ALIGNMENT: [u32; 16] = [1, 2, 1, 4, 1, 2, 1, 0, 1, 2, 1, 4, 0, 0, 1, 0];
 
 /// Where the load or store of a word leads; 0 where it makes none.
 #[inline]
-fn load_or_store(machine: &Machine, word: u32, second: Second) -> Result<u32, Stop> {
+fn load_or_store(
+    machine: &Machine,
+    pages: &mut Pages,
+    word: u32,
+    second: Second,
+) -> Result<u32, Stop> {
     let bytes = match opcode(word) {
         opcode @ 0x20..=0x2F => ALIGNMENT[opcode as usize - 0x20],
         _ => 0,
@@ -65,5 +77,5 @@ fn load_or_store(machine: &Machine, word: u32, second: Second) -> Result<u32, St
     }
     let access = if opcode(word) < 0x28 { Access::Load } else { Access::Store };
     let address = machine.register(rs(word)).wrapping_add(signed_immediate(word));
-    route(machine, address, bytes, access, second)
+    route(machine, pages, address, bytes, access, second)
 }

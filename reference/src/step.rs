@@ -7,13 +7,14 @@ use crate::execute::execute;
 use crate::look::{look, Instruction};
 use crate::machine::Machine;
 use crate::memory::Memory;
+use crate::pages::Pages;
 use crate::printer;
 use crate::record::Recorder;
 
 /// Takes one step, whatever the table holds, and tells whether it entered an
 /// exception.
 pub fn step<R: Recorder>(machine: &mut Machine, memory: &mut Memory, recorder: &mut R) -> bool {
-    let coming = match look(machine, memory, Second::IsPassedBy) {
+    let coming = match look(machine, memory, &mut Pages::none(), Second::IsPassedBy) {
         Ok(instruction) => Ok(instruction),
         Err(Stop::Raised(exception)) => Err(exception),
         Err(Stop::TwoMatches) => unreachable!("a second match is passed by"),

@@ -1,5 +1,8 @@
 //! Fields of an instruction word.
 
+/// The opcode of coprocessor 0.
+pub const COP0: u32 = 0x10;
+
 pub fn opcode(word: u32) -> u32 {
     word >> 26
 }
