@@ -130,15 +130,8 @@ pub(crate) fn run_steps(
         if steps == budget {
             break BUDGET_SPENT;
         }
-        let coming = match look(&machine, &memory, &mut pages, Second::Stops) {
-            Ok(instruction) => {
-                if opcode(instruction.word) == COP0 {
-                    pages.forget();
-                }
-                Ok(instruction)
-            }
-            Err(Stop::Raised(exception)) => Err(exception),
-            Err(Stop::TwoMatches) => break TWO_MATCHES,
+        let Some(coming) = coming(&machine, &memory, &mut pages) else {
+            break TWO_MATCHES;
         };
         let entered = take_step(&mut machine, &mut memory, coming);
         steps += 1;
@@ -148,6 +141,25 @@ pub(crate) fn run_steps(
     };
     encode(&machine, image);
     Answer::done(reason, steps)
+}
+
+/// The step to come, or None where the run stops before it.
+#[inline]
+fn coming(
+    machine: &Machine,
+    memory: &Memory,
+    pages: &mut Pages,
+) -> Option<Result<Instruction, Exception>> {
+    match look(machine, memory, pages, Second::Stops) {
+        Ok(instruction) => {
+            if opcode(instruction.word) == COP0 {
+                pages.forget();
+            }
+            Some(Ok(instruction))
+        }
+        Err(Stop::Raised(exception)) => Some(Err(exception)),
+        Err(Stop::TwoMatches) => None,
+    }
 }
 
 fn run_refusal(
