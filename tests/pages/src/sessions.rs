@@ -42,8 +42,7 @@ impl Session {
         self.net += u64::from(answer.steps);
         self.halted = answer.reason == TWO_MATCHES;
         self.changes.happened(CALL);
-        watch(&before, answer, &mut self.changes, met);
-        Ok(())
+        watch(&before, answer, &self.sides.theirs, &mut self.changes, met)
     }
 
     fn take_back(&mut self, dice: &mut Dice, met: &mut Met) -> Result<(), Vec<String>> {

@@ -1,43 +1,74 @@
-//! Each step of a run, and the step that it stopped before, looked at.
+//! Each step of a run, and the step that it stopped before, looked at. The steps
+//! are taken one by one, and nothing is remembered from one to the next: the run
+//! of the reference, which remembers pages, has to come to the same.
 
 use crate::asm::{RFE, TLBR, TLBWI, TLBWR};
 use crate::call::Call;
 use crate::changes::{self as change, Changes};
+use crate::fields::same_but_journal_place;
 use crate::look::{look, Access, Kind, Look, ASID, PAGE, RAM};
 use crate::met::Met;
-use reference::{decode, step, Answer, Machine, NoRecord, TWO_MATCHES};
+use crate::sides::Buffers;
+use reference::{decode, encode, step, Answer, Machine, Memory, NoRecord, TWO_MATCHES};
 use std::collections::HashSet;
 
 const OPERATION: u32 = 0xFE00_003F;
 const MOVE: u32 = 0xFFE0_F800;
 const TO_STATUS: u32 = 0x4080_6000;
 
-pub fn watch(call: &Call, answer: Answer, changes: &mut Changes, met: &mut Met) {
+/// An error where the run's end is not what its steps lead to.
+pub fn watch(
+    call: &Call,
+    answer: Answer,
+    after: &Buffers,
+    changes: &mut Changes,
+    met: &mut Met,
+) -> Result<(), Vec<String>> {
     let mut machine = decode(&call.image);
     let (mut ram, mut paper) = (call.ram.clone(), call.paper.clone());
     let mut memory = call.memory(&mut ram, &mut paper);
     let mut stored = HashSet::new();
+    let mut as_the_look_says = true;
     for _ in 0..answer.steps {
-        let before = machine.clone();
-        let look = look(&before, &memory);
-        accesses(&before, &look, changes, met);
-        let entered = step(&mut machine, &mut memory, &mut NoRecord);
-        met.entered[(machine.cause >> 2 & 31) as usize] += u64::from(entered);
-        if !look.interrupt {
-            let fetched = physical(&before, &look.fetch) & !3;
-            met.modified_code += u64::from(!entered && stored.contains(&fetched));
-        }
-        happened(&before, &machine, &look, entered, changes);
-        if !entered {
-            flows(&before, &machine, met);
-            if let Some(store) = look.data.filter(|data| data.kind == Kind::Store) {
-                stored.insert(physical(&before, &store) & !3);
-            }
-        }
-    }
-    if answer.reason == TWO_MATCHES {
         let look = look(&machine, &memory);
+        as_the_look_says &= look.halt().is_none();
+        taken(&mut machine, &mut memory, &look, &mut stored, changes, met);
+    }
+    let look = look(&machine, &memory);
+    if answer.reason == TWO_MATCHES {
+        as_the_look_says &= look.halt().is_some();
         accesses(&machine, &look, changes, met);
+    }
+    let mut image = after.image.clone();
+    encode(&machine, &mut image);
+    if as_the_look_says && ram == after.ram && same_but_journal_place(&image, &after.image) {
+        Ok(())
+    } else {
+        Err(vec![format!("the reference's run and its steps differ: {answer:?}")])
+    }
+}
+
+/// Takes a step. `stored` are the places that the run has stored to.
+fn taken(
+    machine: &mut Machine,
+    memory: &mut Memory,
+    look: &Look,
+    stored: &mut HashSet<u32>,
+    changes: &mut Changes,
+    met: &mut Met,
+) {
+    let before = machine.clone();
+    accesses(&before, look, changes, met);
+    let entered = step(machine, memory, &mut NoRecord);
+    happened(&before, machine, look, entered, changes);
+    if entered {
+        met.entered[(machine.cause >> 2 & 31) as usize] += 1;
+        return;
+    }
+    met.modified_code += u64::from(stored.contains(&(physical(&before, &look.fetch) & !3)));
+    flows(&before, machine, met);
+    if let Some(store) = look.data.filter(|data| data.kind == Kind::Store) {
+        stored.insert(physical(&before, &store) & !3);
     }
 }
 
