@@ -1,5 +1,6 @@
 #!/bin/sh
-# Builds the benchmark, and runs it: the archive's run beside the reference's.
+# Builds the benchmark, and runs it: the archive's run beside the reference's,
+# and another emulator's where it is installed.
 #
 #     bench/run.sh ARCHIVE [--strict]
 #
@@ -7,7 +8,7 @@
 # ratio above 2.0 is an error.
 #
 # Needs cargo and the Debian package gcc-mipsel-linux-gnu; instructions are
-# counted where valgrind is installed.
+# counted where valgrind is installed, and gxemul is timed where it is.
 #
 # On Arm the program is run by qemu-x86_64, see tests/archive.sh. Its figures
 # then tell of qemu's code, not of the archive's.
@@ -34,4 +35,4 @@ if [ "$(uname -m)" = aarch64 ]; then
     echo "on qemu-x86_64: the figures are of its code, and no measure of the archive"
 fi
 run_program "$folder" "$@"
-echo "other emulators: not run; umps3 starts a machine from its window only, and gxemul did not end by itself"
+./others.sh

@@ -18,7 +18,7 @@ fn of_length(steps: u64, slots: usize) -> Case {
 
 fn of_frames(frames: u32, slots: usize) -> Case {
     let start = Box::new(move || WALKING.station(false, slots, frames));
-    let name = format!("{} frames of RAM", number(frames.into()));
+    let name = format!("RAM frames: {}", number(frames.into()));
     Case { name, slots, steps: 1_000_000, start }
 }
 
