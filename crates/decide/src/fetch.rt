@@ -63,7 +63,13 @@ pub fn fetch(
     if plain(core.cp0.status, Width::Four, ram.len() as u32, core.pc) {
         return Fetched::Word(memory::load_word(ram, (core.pc - RAM) as usize));
     }
-    if near(pages[0], Width::Four, core.cp0.status, core.cp0.entry_hi, core.pc) {
+    if near(
+        pages[0],
+        Width::Four,
+        core.cp0.status,
+        core.cp0.entry_hi,
+        core.pc,
+    ) {
         return Fetched::Word(memory::load_word(ram, place(pages[1], core.pc) as usize));
     }
     fetch_slow(core, rows, execution, bootstrap, ram)

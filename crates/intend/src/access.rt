@@ -112,7 +112,12 @@ pub fn store(
         return Intent::Store(op, reg(regs, rt), va, Reached::Lands(Place::Ram(va - RAM)));
     }
     if near(pages[2], width, cp0.status, cp0.entry_hi, va) & (pages[4] == 1) {
-        return Intent::Store(op, reg(regs, rt), va, Reached::Lands(Place::Ram(place(pages[3], va))));
+        return Intent::Store(
+            op,
+            reg(regs, rt),
+            va,
+            Reached::Lands(Place::Ram(place(pages[3], va))),
+        );
     }
     let answer = reached(Kind::Store, width, cp0, rows, sizes, va);
     Intent::Store(op, reg(regs, rt), va, answer)

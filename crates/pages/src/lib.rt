@@ -126,8 +126,7 @@ pub fn place(frame: u32, a: u32) -> u32
 }
 
 // The key of the address that a load or store asks for, if the word is one.
-fn data_key(status: u32, entry: u32, word: u32, regs: &[u32; 32]) -> u32
-{
+fn data_key(status: u32, entry: u32, word: u32, regs: &[u32; 32]) -> u32 {
     let base = (word / 0x20_0000 % 32) as usize;
     key(status, entry, addiu(regs[base], word % 0x1_0000))
 }
@@ -176,7 +175,12 @@ fn bring(
     if word < 0x8000_0000 {
         return;
     }
-    remember_data(pages, data_key(status, entry, word, regs), rows, ram.len() as u32);
+    remember_data(
+        pages,
+        data_key(status, entry, word, regs),
+        rows,
+        ram.len() as u32,
+    );
 }
 
 // Before a step: the pages that it is going to ask for.

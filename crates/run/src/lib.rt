@@ -144,7 +144,15 @@ fn spin(
         let after = start(&mut core, held, settings, &mut words, paper, journal, mark);
         let now = core_in(&core);
         let cp0 = now.cp0;
-        follow(&mut pages, cp0.status, cp0.entry_hi, now.pc, &regs, rows, ram);
+        follow(
+            &mut pages,
+            cp0.status,
+            cp0.entry_hi,
+            now.pc,
+            &regs,
+            rows,
+            ram,
+        );
         let d = decide(now, &regs, rows, &pages, execution, bootstrap, ram);
         let effect = d.effect;
         let old = old_row(effect, rows);
