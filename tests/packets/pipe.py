@@ -1,10 +1,10 @@
-"""pipe.py FOLDER INPUTS - the program lavushmir-gdb over a pipe.
+"""pipe.py FOLDER INPUTS [all] - the program lavushmir-gdb over a pipe.
 
 FOLDER holds the programs lavushmir and lavushmir-gdb as station/build.sh makes
 them; INPUTS is a file of inputs, each behind its length (four bytes, the lowest
 first). Every input is given to a session of its own, on a copy of a small station:
 every other one, if it is not long, in writes of one byte, each of which is a read
-of its own. The program ends by itself, with a status of include/station.h, and
+of its own; with `all`, every one is. The program ends by itself, with a status of include/station.h, and
 says whole packets only. Programs that are wrong on purpose must be noticed. Only
 the standard library."""
 import collections
@@ -155,10 +155,10 @@ def inputs(name):
             yield file.read(struct.unpack("<I", length)[0])
 
 
-def session(folder, work, number, given):
+def session(folder, work, number, given, every):
     """What is wrong with one session, or None; and what was met in it."""
     met = collections.Counter(sessions=1)
-    is_cut = number % 2 == 1 and len(given) <= MOST_CUT
+    is_cut = every or number % 2 == 1 and len(given) <= MOST_CUT
     met["sessions cut at every byte"] += is_cut
     met["bytes given"] += len(given)
     copy = os.path.join(work, "copy%d" % number)
@@ -170,11 +170,11 @@ def session(folder, work, number, given):
     return found, met
 
 
-def sessions(folder, work, name):
+def sessions(folder, work, name, every):
     """The first trouble, or None; and what was met."""
     met = collections.Counter()
     with concurrent.futures.ThreadPoolExecutor(AT_ONCE) as pool:
-        waits = [pool.submit(session, folder, work, number, given) for number, given in enumerate(inputs(name), 1)]
+        waits = [pool.submit(session, folder, work, number, given, every) for number, given in enumerate(inputs(name), 1)]
         for wait in concurrent.futures.as_completed(waits):
             found, one = wait.result()
             met += one
@@ -188,7 +188,7 @@ def main():
     folder, name = os.path.abspath(sys.argv[1]), sys.argv[2]
     with tempfile.TemporaryDirectory() as work:
         make_station(folder, work)
-        found, met = sessions(folder, work, name)
+        found, met = sessions(folder, work, name, sys.argv[3:] == ["all"])
     if found is not None:
         print("packets: lavushmir-gdb, " + found)
         return 1
