@@ -4,7 +4,7 @@ use mathlib.Core.Path.{_≡_, refl, sym, ap, _∙_}
 use mathlib.Core.Bool.{Bool, true, false, cond, _&&_}
 use mathlib.Core.List.{List}
 use native.Mathlib.Omega.{arith}
-use borrow.Author.Tests.{eq-eqb, ne-eqb, lt-leb}
+use borrow.Author.Tests.{eqb-true, eqb-false, eq-eqb, ne-eqb, lt-leb}
 use lib.Dec.{eqb, leb, ltb}
 use lib.ListN.{length, getD, set, length-set}
 use lib.Seq.{sets, set-getD, getD-set-other}
@@ -15,7 +15,7 @@ use Rattle.printer.specs.declared.Printer.{Printer}
 use Rattle.printer.specs.declared.tick.One.{One}
 use Rattle.state.specs.Layout.{printerWords}
 use Rattle.held.specs.Board.{printerIn, printersIn}
-use Rattle.held.specs.Line.{OneHeldIs, takesIn, CommandIs, DataIs, KeptIs}
+use Rattle.held.specs.Line.{OneHeldIs, GoesOn, WaitIs, takesIn, CommandIs, DataIs, KeptIs}
 use Rattle.held.proofs.Board.{store-five}
 use Rattle.held.proofs.Stored.{stored-printer, stored-forty, printer-at}
 
@@ -58,6 +58,16 @@ module _ (words : List ℕ) (n : ℕ) (few : n < 8) (forty : length words ≡ 40
         paper-is = rw (busy, goes);
         forty = ap (λ (l : List ℕ). length l) put ∙ length-set words (5 * n + 3) (p .left - 1) ∙ forty;
       }
+
+  -- a tick that does not end it, whether it works or not
+  pub waits : {words′ : List ℕ} → GoesOn words n → words′ ≡ set words (5 * n + 3) (cond (isBusy (printerIn words n)) (printerIn words n .left - 1) (printerIn words n .left)) →
+      WaitIs n words words′
+  waits {words′} more put paper = go (isBusy (printerIn words n)) refl more put
+    where
+      go : (b : Bool) → isBusy (printerIn words n) ≡ b → (b ≡ true → 1 < printerIn words n .left) →
+          words′ ≡ set words (5 * n + 3) (cond b (printerIn words n .left - 1) (printerIn words n .left)) → OneHeldIs n words paper false words′ paper
+      go true e m p = falls paper refl (eqb-true (printerIn words n .status) 3 e) (m refl) p
+      go false e m p = rw (p ∙ set-getD words (5 * n + 3) 0) (still paper refl (eqb-false (printerIn words n .status) 3 e))
 
   pub worked : (paper : List ℕ) {p : Printer} {one : One} {words′ paper′ : List ℕ} → p ≡ printerIn words n → OneIs n p paper one paper′ →
       words′ ≡ sets words (5 * n) (printerWords (one .printer)) → OneHeldIs n words paper (one .finished) words′ paper′

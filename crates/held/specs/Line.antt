@@ -1,6 +1,6 @@
 -- What the moves of the printers' line leave of the forty words that a run holds. words′ and paper′ are what stands behind the references afterwards.
-use Prim.Native.Nat.{ℕ}
-use mathlib.Core.Bool.{Bool, not, _&&_, cond}
+use Prim.Native.Nat.{ℕ, _<_}
+use mathlib.Core.Bool.{Bool, true, false, not, _&&_, cond}
 use mathlib.Core.List.{List}
 use mathlib.Core.Path.{_≡_}
 use lib.ListN.{length, getD, set}
@@ -26,6 +26,19 @@ pub record OneHeldIs (n : ℕ) (words paper : List ℕ) (finished : Bool) (words
 
 pub record TicksIs (words : List ℕ) (pending : ℕ) (paper : List ℕ) (map : ℕ) (words′ paper′ : List ℕ) : Type 0 where
   pub ticked : printing (printersIn words′) map paper′ ≡ tickedOf (printing (printersIn words) pending paper)
+  pub forty : length words′ ≡ 40
+
+-- a tick does not end printer n
+abbrev pub GoesOn : List ℕ → ℕ → Type 0
+GoesOn words n = isBusy (printerIn words n) ≡ true → 1 < printerIn words n .left
+
+-- the tick of printer n, which it does not end; whatever paper is
+abbrev pub WaitIs : ℕ → List ℕ → List ℕ → Type 0
+WaitIs n words words′ = (paper : List ℕ) → OneHeldIs n words paper false words′ paper
+
+-- the same of all eight, whatever paper and the map are
+pub record WaitsIs (words words′ : List ℕ) : Type 0 where
+  pub ticked : (pending : ℕ) (paper : List ℕ) → printing (printersIn words′) pending paper ≡ tickedOf (printing (printersIn words) pending paper)
   pub forty : length words′ ≡ 40
 
 -- an installed, idle printer takes writes

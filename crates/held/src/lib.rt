@@ -13,11 +13,12 @@ pub mod line; // the moves of the printers' line
 use clock::Clock;
 use printer::Printer;
 
-// What a run holds of the board beside the settings and the printers' words. While nothing is busy, no printer is looked at.
+// What a run holds of the board beside the settings and the printers' words. `soon` tells in how many ticks a printer ends
+// at the earliest: 0 where none works, and 1 where that has not been looked at. Only where it is 1 is a printer looked at.
 pub struct Held {
     pub clock: Clock,
     pub pending: u32,
-    pub busy: bool,
+    pub soon: u32,
 }
 
 pub fn printer_in(words: &[u32; 40], n: usize) -> Printer

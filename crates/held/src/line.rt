@@ -1,11 +1,13 @@
 // The printers' line where a run holds it: each printer is looked at and put back at its place among the forty words, and those that stand still are not written.
 ghost use mathlib.Core.Path.{_≡_};
-ghost use Prim.Native.Nat.{_<_, _≤_};
+ghost use mathlib.Core.Bool.{cond, true};
+ghost use Prim.Native.Nat.{ℕ, _-_, _<_, _≤_};
+ghost use lib.Dec.{eqb};
 ghost use lib.ListN.{length};
-ghost use Rattle.printer.specs.Tick.{anyBusy, anyEnding};
+ghost use Rattle.printer.specs.Tick.{anyEnding};
 ghost use Rattle.printer.specs.Saved.{savedPaperOf};
-ghost use Rattle.held.specs.Board.{printersIn};
-ghost use Rattle.held.specs.Line.{OneHeldIs, TicksIs, CommandIs, DataIs, KeptIs};
+ghost use Rattle.held.specs.Board.{printerIn, printersIn, Waits, leastOf};
+ghost use Rattle.held.specs.Line.{OneHeldIs, TicksIs, GoesOn, WaitIs, WaitsIs, CommandIs, DataIs, KeptIs};
 use crate::printer_in;
 use crate::put_printer;
 use printer::BUSY;
@@ -52,14 +54,65 @@ pub fn tick(words: &mut [u32; 40], pending: u32, paper: &mut [u8]) -> u32
     map
 }
 
-pub fn busy_in(words: &[u32; 40]) -> bool
-    ensures { λ r. ⌜ r ≡ anyBusy (printersIn (now (words .entry))) ⌝ }
+// The ticks left after a tick that does not end.
+fn waited(status: u32, left: u32) -> u32
+    requires { ⌜ (eqb status 3 ≡ true → 1 ≤ left) ⌝ }
+    ensures { λ r. ⌜ r ≡ cond (eqb status 3) (left - 1) left ⌝ }
 {
-    let mut some = false;
-    for n in 0..8 {
-        some = some | (words[5 * n] == BUSY);
+    if status == BUSY {
+        return left - 1;
     }
-    some
+    left
+}
+
+// The tick of printer `n`, which does not end by it.
+fn wait_at(words: &mut [u32; 40], n: usize)
+    requires { ⌜ (n < 8) × (length (now words) ≡ 40) × GoesOn (now words) n ⌝ }
+    ensures { λ _. ⌜ WaitIs n (now (words .entry)) (now (words .exit)) ⌝ }
+{
+    words[5 * n + 3] = waited(words[5 * n], words[5 * n + 3]);
+}
+
+// The tick of all eight, none of which ends by it: no paper and no map is asked for.
+pub fn wait(words: &mut [u32; 40])
+    requires { ⌜ (length (now words) ≡ 40) × ((n : ℕ) → n < 8 → GoesOn (now words) n) ⌝ }
+    ensures { λ _. ⌜ WaitsIs (now (words .entry)) (now (words .exit)) ⌝ }
+{
+    for n in 0..8 {
+        wait_at(words, n);
+    }
+}
+
+// `soon` with printer `n` in mind.
+fn least(words: &[u32; 40], n: usize, soon: u32) -> u32
+    requires { ⌜ n < 8 ⌝ }
+    ensures { λ r. ⌜ r ≡ leastOf (printerIn (now (words .entry)) n) soon ⌝ }
+{
+    let left = words[5 * n + 3];
+    if words[5 * n] != BUSY {
+        return soon;
+    }
+    if left <= 1 {
+        return 1;
+    }
+    if soon == 0 {
+        return left;
+    }
+    if left <= soon {
+        return left;
+    }
+    soon
+}
+
+// In how many ticks the next printer ends; 0 where none works.
+pub fn soon_in(words: &[u32; 40]) -> u32
+    ensures { λ r. ⌜ Waits r (now (words .entry)) ⌝ }
+{
+    let mut soon: u32 = 0;
+    for n in 0..8 {
+        soon = least(words, n, soon);
+    }
+    soon
 }
 
 // Whether a printer finishes at the next tick.

@@ -1,4 +1,4 @@
--- What a note says: its map tells which printers print, it fits, and of idle printers it says nothing.
+-- What a note says: its map tells which printers print, it fits, and where none prints it says nothing.
 use Prim.{tt}
 use Prim.Native.Nat.{ℕ, zero, suc, _^_, _≤_, _<_}
 use mathlib.Core.Path.{_≡_, refl, _∙_}
@@ -13,12 +13,11 @@ use lib.ListN.{getD}
 use Rattle.word.proofs.Lists.{getD-tabulate, tabulate-ext}
 use Rattle.printer.specs.declared.Printer.{Printer}
 use Rattle.word.specs.Map.{bit, withBit}
-use Rattle.printer.specs.Tick.{noPrinter, roomOf, placeOf, prints, isBusy, someOf, anyBusy}
+use Rattle.printer.specs.Tick.{noPrinter, roomOf, placeOf, prints}
 use Rattle.printer.specs.Saved.{printingMap, savedByte, savedPaperOf, byteFits, paperFits, nothingSaved}
 use Rattle.printer.proofs.Each.{all-hold}
 use Rattle.word.proofs.Maps.{bit-told, bit-other, with-small}
 use Rattle.printer.proofs.Places.{prints-room}
-use Rattle.printer.proofs.Ticks.{neither}
 
 -- bit k of the map tells whether printer k prints
 pub map-tells : (room : ℕ) (printers : List Printer) (n k : ℕ) → k < n → bit k (printingMap room printers n) ≡ prints room (getD printers k noPrinter)
@@ -50,25 +49,12 @@ module _ (printers : List Printer) (paper : List ℕ) where
       go k p true e = lt-ltb (p .count) (roomOf paper) (prints-room (roomOf paper) p e)
       go k p false e = refl
 
-  -- no printer prints where none is busy
-  idle-silent : (n : ℕ) → someOf isBusy n printers ≡ false → (k : ℕ) → k < n → prints (roomOf paper) (getD printers k noPrinter) ≡ false
-  unfolding someOf
-  idle-silent zero e k h = absurd (omega arith)
-  idle-silent (suc n) e k h =
-      let both = neither (someOf isBusy n printers) (isBusy (getD printers n noPrinter)) e in
-      elim (decLt k n) [
-        | yes lower ↦ idle-silent n (both .0) k lower
-        | no not-lower ↦ let last : k ≡ n = omega arith in rw (last, both .1)
-      ]
-
   silent-map : (n : ℕ) → ((k : ℕ) → k < n → prints (roomOf paper) (getD printers k noPrinter) ≡ false) → printingMap (roomOf paper) printers n ≡ 0
   unfolding printingMap withBit
   silent-map zero h = refl
   silent-map (suc n) h = rw (silent-map n (λ k l. h k (omega arith)), h n (omega arith), zero-div (2 ^ n))
 
-  -- Where no printer is busy the note says nothing, so nothing need be computed for it.
-  pub idle-note : anyBusy printers ≡ false → savedPaperOf printers paper ≡ nothingSaved
+  -- Where no printer prints the note says nothing, so nothing need be computed for it.
+  pub silent-note : ((k : ℕ) → k < 8 → prints (roomOf paper) (getD printers k noPrinter) ≡ false) → savedPaperOf printers paper ≡ nothingSaved
   unfolding savedPaperOf
-  idle-note e =
-      let silent = idle-silent 8 e in
-      rw (silent-map 8 silent, tabulate-ext 8 (savedByte printers paper) (λ (k : ℕ). 0) (λ k h. rw (silent k h)))
+  silent-note silent = rw (silent-map 8 silent, tabulate-ext 8 (savedByte printers paper) (λ (k : ℕ). 0) (λ k h. rw (silent k h)))

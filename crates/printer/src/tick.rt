@@ -7,7 +7,6 @@ ghost use lib.ListN.{length};
 ghost use Rattle.word.specs.Map.{withBit};
 ghost use Rattle.printer.specs.Tick.{
   prints,
-  anyBusy,
   endedWith,
   finishedOf,
   printerTicked,
@@ -109,15 +108,4 @@ pub fn pending_on(n: usize, finished: bool, pending: u32) -> u32
         return with_bit(n, true, pending);
     }
     pending
-}
-
-pub fn any_busy(printers: [Printer; 8]) -> bool
-    ensures { λ r. ⌜ r ≡ anyBusy printers ⌝ }
-{
-    let mut some = false;
-    for n in 0..8 {
-        let p = printers[n];
-        some = some | (p.status == BUSY);
-    }
-    some
 }

@@ -6,10 +6,12 @@ use lib.ListN.{length}
 use Rattle.ring.specs.Run.{Config, ended}
 use Rattle.ring.specs.Run as ring
 use Rattle.journal.specs.Journal.{slotsOf}
-use Rattle.printer.specs.Tick.{anyBusy}
+use Rattle.word.specs.Lists.{flat}
+use Rattle.state.specs.Layout.{printerWords}
 use Rattle.state.specs.declared.machine.Machine.{Machine}
 use Rattle.held.proofs.Board.{held-printers, length-held}
 use Rattle.held.proofs.CoreWords.{core-held}
+use Rattle.held.proofs.Soon.{any-waits}
 use Rattle.step.specs.World.{Roms}
 use Rattle.turn.specs.Buffers.{Beside, romsIn}
 use Rattle.turn.specs.declared.Parts.{Parts}
@@ -30,7 +32,7 @@ module _ (m : Machine) (eight : length (m .board .line .printers) ≡ 8) (sixtee
         table = sixteen;
         told =
             record {
-              busy-is = ap anyBusy (sym (held-printers (m .board .line .printers) eight));
+              waits = any-waits (flat printerWords (m .board .line .printers));
               forty = length-held (m .board .line .printers) eight;
             };
         whole = fits .whole;

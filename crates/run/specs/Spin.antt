@@ -9,7 +9,6 @@ use Rattle.ring.specs.Run.{Config, ended}
 use Rattle.ring.specs.Run as ring
 use Rattle.journal.specs.Journal.{slotsOf, ringOf}
 use Rattle.journal.specs.Journal as slots
-use Rattle.printer.specs.Tick.{anyBusy}
 use Rattle.state.specs.Layout.{keptWords, printerWords, HoldsZero}
 use Rattle.state.specs.declared.machine.Machine.{Machine}
 use Rattle.state.specs.declared.machine.Settings.{Settings}
@@ -30,7 +29,7 @@ abbrev pub partsOf : Machine → Parts
 partsOf m =
     record {
       core = keptWords (m .cpu .core);
-      held = record { clock = m .board .clock; pending = m .board .line .pending; busy = anyBusy (m .board .line .printers) };
+      held = record { clock = m .board .clock; pending = m .board .line .pending; soon = 1 };
       regs = m .cpu .regs;
       rows = m .cpu .tlb;
       words = flat printerWords (m .board .line .printers);

@@ -16,7 +16,6 @@ use look::looked;
 use look::next_look;
 use pages::follow;
 use printer::Line;
-use printer::tick::any_busy;
 use state::machine::Board;
 use state::machine::Cpu;
 use state::machine::Machine;
@@ -53,7 +52,7 @@ fn opened(machine: Machine) -> Parts
     let held = Held {
         clock,
         pending: line.pending,
-        busy: any_busy(printers),
+        soon: 1,
     };
     let words = packed(printers);
     let mark = machine.journal;

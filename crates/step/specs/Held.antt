@@ -5,11 +5,11 @@ use mathlib.Core.Path.{_≡_}
 use lib.ListN.{length}
 use Rattle.board.specs.declared.places.Sizes.{Sizes}
 use Rattle.bus.specs.declared.store.Store.{Store}
-use Rattle.printer.specs.Tick.{printing, anyBusy, tickedOf}
+use Rattle.printer.specs.Tick.{printing, tickedOf}
 use Rattle.state.specs.declared.machine.Settings.{Settings}
 use Rattle.decide.specs.declared.effect.Effect.{Effect}
 use Rattle.decide.specs.declared.effect.Decision.{Decision}
-use Rattle.held.specs.Board.{printersIn, boardOf, Told}
+use Rattle.held.specs.Board.{printersIn, boardOf, Waits, Told}
 use Rattle.held.specs.Core.{coreIn}
 use Rattle.held.specs.declared.Held.{Held}
 use Rattle.step.specs.World.{worldOf}
@@ -22,7 +22,7 @@ use Rattle.step.specs.declared.tick.AfterPrinters.{AfterPrinters}
 
 pub record PrintedIs (words : List ℕ) (map : ℕ) (paper : List ℕ) (r : AfterPrinters) (words′ paper′ : List ℕ) : Type 0 where
   pub ticked : printing (printersIn words′) (r .pending) paper′ ≡ tickedOf (printing (printersIn words) map paper)
-  pub told : r .busy ≡ anyBusy (printersIn words′)
+  pub told : Waits (r .soon) words′
   pub forty : length words′ ≡ 40
 
 pub record TickIs (settings : Settings) (core : List ℕ) (held : Held) (words paper : List ℕ) (r : Held) (core′ words′ paper′ : List ℕ) : Type 0 where

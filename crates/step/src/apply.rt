@@ -183,7 +183,7 @@ fn stored(s: Store, held: Held, settings: Settings, words: &mut [u32; 40]) -> He
 }
 
 fn timed(held: Held, timer: u32) -> Held
-    ensures { λ r. ⌜ r ≡ record { clock = record { high = held .clock .high; low = held .clock .low; timer = timer }; pending = held .pending; busy = held .busy } ⌝ }
+    ensures { λ r. ⌜ r ≡ record { clock = record { high = held .clock .high; low = held .clock .low; timer = timer }; pending = held .pending; soon = held .soon } ⌝ }
 {
     let clock = held.clock;
     Held {
@@ -193,16 +193,19 @@ fn timed(held: Held, timer: u32) -> Held
             timer,
         },
         pending: held.pending,
-        busy: held.busy,
+        soon: held.soon,
     }
 }
 
-// Of the eight only the printer that took the command is looked at: one that takes it was not busy, and no other changes (proofs/Busy).
+// A printer at work takes no command.
 fn commanded(held: Held, settings: Settings, words: &mut [u32; 40], n: usize, word: u32) -> Held
     requires { ⌜ n < 8 ⌝ }
     requires { ⌜ Told held (now words) ⌝ }
     ensures { λ r. ⌜ StoredIs settings (Store.Command n word) held (now (words .entry)) r (now (words .exit)) ⌝ }
 {
+    if words[5 * n] == BUSY {
+        return held;
+    }
     let clock = held.clock;
     let pending = command(
         words,
@@ -212,15 +215,14 @@ fn commanded(held: Held, settings: Settings, words: &mut [u32; 40], n: usize, wo
         n,
         word,
     );
-    let works = words[5 * n] == BUSY;
     Held {
         clock,
         pending,
-        busy: held.busy | works,
+        soon: 1,
     }
 }
 
-// DATA0 leaves every STATUS.
+// DATA0 leaves every STATUS, and the ticks left.
 fn written(held: Held, settings: Settings, words: &mut [u32; 40], n: usize, word: u32) -> Held
     requires { ⌜ n < 8 ⌝ }
     requires { ⌜ Told held (now words) ⌝ }
@@ -231,7 +233,7 @@ fn written(held: Held, settings: Settings, words: &mut [u32; 40], n: usize, word
     Held {
         clock,
         pending: held.pending,
-        busy: held.busy,
+        soon: held.soon,
     }
 }
 

@@ -2,8 +2,7 @@
 ghost use mathlib.Core.Path.{_≡_};
 ghost use Prim.Native.Nat.{_≤_};
 ghost use lib.ListN.{length};
-ghost use Rattle.printer.specs.Tick.{anyBusy};
-ghost use Rattle.held.specs.Board.{printersIn, Told};
+ghost use Rattle.held.specs.Board.{Waits, Told};
 ghost use Rattle.step.specs.Tick.{randomTicked, rangLine, linesTicked};
 ghost use Rattle.step.specs.Parts.{coreTicked};
 ghost use Rattle.step.specs.Held.{PrintedIs, TickIs};
@@ -14,8 +13,9 @@ use cp0::registers::Cp0;
 use held::Held;
 use held::core::core_in;
 use held::core::put_core;
-use held::line::busy_in;
+use held::line::soon_in;
 use held::line::tick;
+use held::line::wait;
 use printer::cause::shown;
 use state::machine::Core;
 use state::machine::Settings;
@@ -62,24 +62,31 @@ pub fn core_ticked(rang: bool, pending: u32, c: Core) -> Core
 
 pub struct AfterPrinters {
     pub pending: u32,
-    pub busy: bool,
+    pub soon: u32,
 }
 
-// Printers that all stand still are not looked at (printer/proofs/Ticks: idle-tick).
-fn printed(words: &mut [u32; 40], pending: u32, busy: bool, paper: &mut [u8]) -> AfterPrinters
+// Printers that all stand still are not looked at (printer/proofs/Ticks: idle-tick), and where none ends they only wait.
+fn printed(words: &mut [u32; 40], pending: u32, soon: u32, paper: &mut [u8]) -> AfterPrinters
     requires { ⌜ length (now paper) ≤ 65536 ⌝ }
-    requires { ⌜ (busy ≡ anyBusy (printersIn (now words))) × (length (now words) ≡ 40) ⌝ }
+    requires { ⌜ Waits soon (now words) × (length (now words) ≡ 40) ⌝ }
     ensures { λ r. ⌜
         PrintedIs (now (words .entry)) pending (now (paper .entry)) r (now (words .exit)) (now (paper .exit))
         ⌝ }
 {
-    if !busy {
-        return AfterPrinters { pending, busy };
+    if soon == 0 {
+        return AfterPrinters { pending, soon };
+    }
+    if 1 < soon {
+        wait(words);
+        return AfterPrinters {
+            pending,
+            soon: soon - 1,
+        };
     }
     let map = tick(words, pending, paper);
     AfterPrinters {
         pending: map,
-        busy: busy_in(words),
+        soon: soon_in(words),
     }
 }
 
@@ -97,7 +104,7 @@ pub fn ticked(
         TickIs settings (now (core .entry)) held (now (words .entry)) (now (paper .entry)) r (now (core .exit)) (now (words .exit)) (now (paper .exit))
         ⌝ }
 {
-    let printed = printed(words, held.pending, held.busy, paper);
+    let printed = printed(words, held.pending, held.soon, paper);
     let beat = tick_of(held.clock);
     let clock = beat.clock;
     let was = core_in(core);
@@ -105,6 +112,6 @@ pub fn ticked(
     Held {
         clock,
         pending: printed.pending,
-        busy: printed.busy,
+        soon: printed.soon,
     }
 }

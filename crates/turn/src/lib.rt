@@ -47,12 +47,12 @@ pub struct Turned {
     pub mark: Journal,
 }
 
-// While nothing is busy, nothing is printed (printer/proofs/Notes: idle-note).
+// Where no printer ends, nothing is printed (printer/proofs/Notes: silent-note).
 fn kept_paper(held: Held, words: &[u32; 40], paper: &[u8]) -> SavedPaper
     requires { ⌜ Told held (now words) ⌝ }
     ensures { λ r. ⌜ r ≡ savedPaperOf (printersIn (now (words .entry))) (now (paper .entry)) ⌝ }
 {
-    if held.busy {
+    if held.soon == 1 {
         return saved_paper(words, paper);
     }
     let bytes = [0u8; 8];

@@ -6,18 +6,14 @@ use Rattle.run.proofs.opened.Tie as tie
 core-words-requires : tie.Need-core-words-requires
 core-words-requires c κs = search needs
 
-any-busy-requires : tie.Need-any-busy-requires
-any-busy-requires c κs = search needs
-
 packed-requires : tie.Need-packed-requires
 packed-requires c κs = search needs
 
 returns : tie.Need-returns
 returns c =
     let packed = c .before in
-    let asked = packed .before in
-    let core = asked .before .before .before .before .before .before .before in
-    rw (packed .packed .ensures, asked .any-busy .ensures, core .core-words .ensures)
+    let core = packed .before .before .before .before .before .before .before in
+    rw (packed .packed .ensures, core .core-words .ensures)
 
 pub opened-spec : {M : Type 1} → statement M
-opened-spec = tie.close (tie.spec core-words-requires any-busy-requires packed-requires returns)
+opened-spec = tie.close (tie.spec core-words-requires packed-requires returns)

@@ -7,7 +7,7 @@ use Rattle.step.proofs.tick.ticked.Tie as tie
 printed-requires : tie.Need-printed-requires
 printed-requires c κs =
     let start = c .before .before .before in
-    (start .pre .0, (start .pre .1 .busy-is, start .pre .1 .forty))
+    (start .pre .0, (start .pre .1 .waits, start .pre .1 .forty))
 
 tick-of-requires : tie.Need-tick-of-requires
 tick-of-requires c κs = search needs
