@@ -5,7 +5,7 @@
 #     bench/run.sh ARCHIVE [--strict]
 #
 # ARCHIVE is the x86-64 archive, a file named liblavushmir.a. With --strict, a
-# ratio above 2.0 is an error.
+# ratio above 1.5 is an error.
 #
 # Needs cargo and the Debian package gcc-mipsel-linux-gnu; instructions are
 # counted where valgrind is installed, and gxemul is timed where it is.

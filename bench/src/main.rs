@@ -35,7 +35,7 @@ use std::env;
 use std::path::Path;
 use std::process::exit;
 
-const LIMIT: f64 = 2.0;
+const LIMIT: f64 = 1.5;
 
 fn usage() -> ! {
     eprintln!("usage: bench FOLDER [--strict]");
