@@ -17,7 +17,7 @@ use Rattle.good.proofs.Image.{good-image, good-keeps}
 use Rattle.accepted.specs.After.{machineAfter}
 use Rattle.accepted.proofs.Start.{sound-kept, image-bytes}
 
-module _ (w : World) (g : Ring) (slots : ℕ) (few : slots < 2 ^ 32) (good : Good w) (sound : Sound 256 slots g) where
+module _ (w : World) (g : Ring) (slots : ℕ) (few : slots < 2 ^ 32) (good : Good w) (sound : Sound 512 slots g) where
   abbrev mark : Journal
   mark = record { «on_hand» = g .hand; «next_slot» = g .next }
 
@@ -34,7 +34,7 @@ module _ (w : World) (g : Ring) (slots : ℕ) (few : slots < 2 ^ 32) (good : Goo
   pub end-bytes : Below 256 (bytesOf (machineAfter w g))
   end-bytes = image-bytes (machineIn w mark) end-typed
 
-  pub end-good : slots ≡ length (g .bytes) / 256 → goodImage (bytesOf (machineAfter w g)) (length (w .paper)) (length (g .bytes)) ≡ true
+  pub end-good : slots ≡ length (g .bytes) / 512 → goodImage (bytesOf (machineAfter w g)) (length (w .paper)) (length (g .bytes)) ≡ true
   end-good e =
       encoded-good (machineIn w mark) (length (w .paper)) (length (g .bytes)) end-typed
-      ∙ good-keeps w mark (length (g .bytes)) (rw (← e) (sound-kept 256 slots g sound)) good
+      ∙ good-keeps w mark (length (g .bytes)) (rw (← e) (sound-kept 512 slots g sound)) good

@@ -19,7 +19,7 @@ use Rattle.state.specs.Layout.{journalWords, wordsOf, header, bytesOf, machineO
 use Rattle.state.specs.declared.machine.Machine.{Machine}
 use Rattle.state.specs.declared.machine.Journal.{Journal}
 use Rattle.state.proofs.RoundTrip.{decoded-typed}
-use Rattle.rules.specs.Rules.{headerKeeps, journalKeeps, stateKeeps, machineKeeps, keepsRules, goodImage}
+use Rattle.rules.specs.Rules.{bytesKeep, journalKeeps, stateKeeps, machineKeeps, keepsRules, goodImage}
 use Rattle.decide.specs.Lent.{Words, Whole, lentOf}
 use Rattle.good.specs.Good.{noMark, Good}
 use Rattle.good.proofs.Belows.{each-below}
@@ -69,7 +69,7 @@ placed n x false e h =
     let x-zero = eqb-true x 0 (g .1) in
     omega (arith, x-zero)
 
-pub ring-sound : (journal : List ℕ) (mark : Journal) → journalKeeps mark (slotsOf journal) ≡ true → Sound 256 (slotsOf journal) (ringOf mark journal)
+pub ring-sound : (journal : List ℕ) (mark : Journal) → journalKeeps mark (slotsOf journal) ≡ true → Sound 512 (slotsOf journal) (ringOf mark journal)
 ring-sound journal mark e =
     let n = slotsOf journal in
     let x = mark .«next_slot» in
@@ -122,17 +122,17 @@ module _ (image : List ℕ) (paper journal : ℕ) (good : goodImage image paper 
   abbrev m : Machine
   m = machineOf image
 
-  image-long : length image ≡ 509
-  image-long = eqb-true (length image) 509 (both (eqb (length image) 509) (keepsRules image paper journal) good .0)
+  image-long : length image ≡ 741
+  image-long = eqb-true (length image) 741 (both (eqb (length image) 741) (keepsRules image paper journal) good .0)
 
-  rules : (stateKeeps m paper ≡ true) × (journalKeeps (m .journal) (journal / 256) ≡ true)
+  rules : (stateKeeps m paper ≡ true) × (journalKeeps (m .journal) (journal / 512) ≡ true)
   unfolding keepsRules machineKeeps
   rules =
-      let h = both (eqb (length image) 509) (keepsRules image paper journal) good in
-      let k = both (headerKeeps image) (machineKeeps m paper journal) (h .1) in
-      both (stateKeeps m paper) (journalKeeps (m .journal) (journal / 256)) (k .1)
+      let h = both (eqb (length image) 741) (keepsRules image paper journal) good in
+      let k = both (bytesKeep image) (machineKeeps m paper journal) (h .1) in
+      both (stateKeeps m paper) (journalKeeps (m .journal) (journal / 512)) (k .1)
 
-  pub image-mark : journalKeeps (m .journal) (journal / 256) ≡ true
+  pub image-mark : journalKeeps (m .journal) (journal / 512) ≡ true
   image-mark = rules .1
 
   image-typed : Below 256 image → WellTyped (record { cpu = m .cpu; board = m .board; journal = noMark })

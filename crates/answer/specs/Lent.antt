@@ -21,7 +21,7 @@ romsFit execution bootstrap = fitOf execution && fitOf bootstrap
 abbrev pub paperFits : ℕ → Bool
 paperFits len = leb len 65536 && eqb (len % devices) 0
 
--- 4: "journal is over 16,777,216 bytes or not a multiple of 256 (0 is allowed)"
+-- 4: "journal is over 16,777,216 bytes or not a multiple of 256 (0 is allowed)"; document 02, L4: "01's row 4 and its on-hand rule read 512"
 abbrev pub journalFits : ℕ → Bool
 journalFits len = leb len 16777216 && eqb (len % recordSize) 0
 

@@ -30,7 +30,7 @@ pub fn paper_fits(len: usize) -> bool
 pub fn journal_fits(len: usize) -> bool
     ensures { λ r. ⌜ r ≡ journalFits len ⌝ }
 {
-    (len <= 16777216) & (len % 256 == 0)
+    (len <= 16777216) & (len % 512 == 0)
 }
 
 pub fn index_fits(ram: usize, len: usize) -> bool

@@ -23,7 +23,7 @@ use Rattle.back.proofs.Cored.{core-laws}
 
 -- the part that is lent
 abbrev pub part : List ℕ → ℕ → List ℕ
-part journal x = take (256 * x + 256 - 256 * x) (drop (256 * x) journal)
+part journal x = take (512 * x + 512 - 512 * x) (drop (512 * x) journal)
 
 -- ---- the pass that checks: v is what undoing the first j records makes of v₀
 

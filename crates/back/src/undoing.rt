@@ -28,7 +28,7 @@ fn undo_slot(
     index: &mut [u8],
     hand: usize,
 ) -> Machine
-    requires { ⌜ length (now slot) ≡ 256 ⌝ }
+    requires { ⌜ length (now slot) ≡ 512 ⌝ }
     requires { ⌜ length (now index) % 16 ≡ 0 ⌝ }
     requires { ⌜ Undoable (recordOf (now slot)) (length (now ram)) ⌝ }
     ensures { λ b. ⌜

@@ -14,7 +14,7 @@ use Rattle.ring.specs.Run.{Config}
 use Rattle.journal.specs.Journal.{Ready}
 use Rattle.state.specs.Layout.{bytesOf, machineOf}
 use Rattle.state.specs.declared.machine.Machine.{Machine}
-use Rattle.rules.specs.Rules.{headerKeeps, journalKeeps, stateKeeps, machineKeeps, keepsRules}
+use Rattle.rules.specs.Rules.{bytesKeep, journalKeeps, stateKeeps, machineKeeps, keepsRules}
 use Rattle.turn.specs.Buffers.{Beside, Buffers, besideOf}
 use Rattle.back.specs.Back.{noRoms, backOf, askedOf, Fits, TakeIs}
 use Rattle.back.proofs.Answers.{asked-is, done-says}
@@ -54,9 +54,9 @@ judged-is b passed keeps is =
     let a = buffers-allowed ram paper journal passed in
     let r = both (eqb (ram % 4096) 0) (between 1 4096 (ram / 4096)) (a .0) in
     let p = both (leb paper 65536) (eqb (paper % 8) 0) (a .1) in
-    let f = both (leb journal 16777216) (eqb (journal % 256) 0) (a .2) in
-    let k = both (headerKeeps (b .image)) (machineKeeps m paper journal) keeps in
-    let j = both (stateKeeps m paper) (journalKeeps (m .journal) (journal / 256)) (k .1) in
+    let f = both (leb journal 16777216) (eqb (journal % 512) 0) (a .2) in
+    let k = both (bytesKeep (b .image)) (machineKeeps m paper journal) keeps in
+    let j = both (stateKeeps m paper) (journalKeeps (m .journal) (journal / 512)) (k .1) in
     record {
       whole-frames = eqb-true (ram % 4096) 0 (r .0);
       short = leb-true paper 65536 (p .0);
@@ -75,18 +75,18 @@ fits-back b j each =
 -- ---- the image
 
 module _ (b : Buffers) where
-  pub bad-length : (length (b .image) ≡ 509 → ⊥) → ruleTest b ≡ Failed Image
+  pub bad-length : (length (b .image) ≡ 741 → ⊥) → ruleTest b ≡ Failed Image
   unfolding ruleTest
-  bad-length h = rw (ne-eqb (length (b .image)) 509 h)
+  bad-length h = rw (ne-eqb (length (b .image)) 741 h)
 
-  module _ (long : length (b .image) ≡ 509) where
+  module _ (long : length (b .image) ≡ 741) where
     pub bad-rules : keepsRules (b .image) (length (b .beside .paper)) (length (b .beside .journal)) ≡ false → ruleTest b ≡ Failed Image
     unfolding ruleTest
-    bad-rules e = rw (eq-eqb (length (b .image)) 509 long, e)
+    bad-rules e = rw (eq-eqb (length (b .image)) 741 long, e)
 
     pub all-passed : keepsRules (b .image) (length (b .beside .paper)) (length (b .beside .journal)) ≡ true → ruleTest b ≡ Passed
     unfolding ruleTest
-    all-passed e = rw (eq-eqb (length (b .image)) 509 long, e)
+    all-passed e = rw (eq-eqb (length (b .image)) 741 long, e)
 
 -- ---- taking back
 

@@ -81,8 +81,8 @@ module _ (n : ℕ) (journal : List ℕ) (next : ℕ) (w : World) where
         let h = both _ _ e in
         let x : ℕ = slotBack n next (suc k) in
         let inside : x < n = back-below n next (suc k) (omega arith) l in
-        good-back (slot 256 journal x) (before k) (before-good k (omega arith) (h .0)) (slot-bytes 256 journal x small)
-        (length-slot 256 n journal room x inside) (h .1)
+        good-back (slot 512 journal x) (before k) (before-good k (omega arith) (h .0)) (slot-bytes 512 journal x small)
+        (length-slot 512 n journal room x inside) (h .1)
 
 -- ---- the call
 
@@ -106,7 +106,7 @@ module _ (b : Buffers) (k : ℕ) (number : backNumber b k ≡ 0) where
   abbrev start : Ring
   start = ringOf (machineOf (b .image) .journal) journal
 
-  start-sound : Sound 256 n start
+  start-sound : Sound 512 n start
   start-sound =
       let t = number-0 b k .0 number in
       ring-sound journal (machineOf (b .image) .journal) (image-mark (b .image) (length (b .beside .paper)) (length journal) (t .1 .1 .1 .0))
@@ -133,7 +133,7 @@ module _ (b : Buffers) (k : ℕ) (number : backNumber b k ≡ 0) where
     done-kept =
         let g = lowered n k start in
         let few = few-slots journal (number-0 b k .0 number .1 .1 .0) in
-        let sound = sound-lowered 256 n k start near start-sound in
+        let sound = sound-lowered 512 n k start near start-sound in
         let long = before-paper n journal (start .next) (worldFrom b) k in
         record {
           image-good = subst (λ (l : ℕ). goodImage (bytesOf (machineAfter older g)) l (length journal) ≡ true) long (end-good older g n few older-good sound refl);

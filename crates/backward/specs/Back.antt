@@ -32,7 +32,7 @@ buffersTest ram paper journal =
 abbrev pub besideBackTest : Beside → Test
 besideBackTest b = buffersTest (length (b .ram)) (length (b .paper)) (length (b .journal))
 
--- row 5: the image is not 509 bytes or breaks a rule
+-- row 5: the image is not 741 bytes or breaks a rule
 unfoldable pub ruleTest : Buffers → Test
 ruleTest b = cond (goodImage (b .image) (length (b .beside .paper)) (length (b .beside .journal))) Passed (Failed Image)
 

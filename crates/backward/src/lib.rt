@@ -47,7 +47,7 @@ fn done(
     steps: u64,
 ) -> Answer
     requires { ⌜ machine ≡ machineOf (now image) ⌝ }
-    requires { ⌜ length (now image) ≡ 509 ⌝ }
+    requires { ⌜ length (now image) ≡ 741 ⌝ }
     requires { ⌜ Fits (besideBack (now ram) (now paper) (now journal) (now index)) machine ⌝ }
     requires { ⌜ askedOf steps machine (length (now ram)) (length (now paper)) (now journal) ≡ done ⌝ }
     ensures { λ r. ⌜
@@ -71,7 +71,7 @@ fn tried(
     steps: u64,
 ) -> Answer
     requires { ⌜ machine ≡ machineOf (now image) ⌝ }
-    requires { ⌜ length (now image) ≡ 509 ⌝ }
+    requires { ⌜ length (now image) ≡ 741 ⌝ }
     requires { ⌜ Judged (besideBack (now ram) (now paper) (now journal) (now index)) machine ⌝ }
     ensures { λ r. ⌜
         leftOf r (buffersBack (now (image .exit)) (now (ram .exit)) (now (paper .exit)) (now (journal .entry)) (now (index .exit)))

@@ -12,13 +12,13 @@ use Rattle.word.specs.Lists.{Below}
 use Rattle.word.proofs.Cond.{both}
 use Rattle.state.specs.Layout.{bytesOf, machineOf}
 use Rattle.rules.specs.Rules.{goodImage}
-use Rattle.answer.specs.Lent.{paperFits, journalFits}
+use Rattle.answer.specs.Lent.{paperFits}
 use Rattle.answer.specs.declared.Reason.the-variants.{NoReason}
 use Rattle.answer.specs.declared.Refusal.the-variants.{Paper, Journal, Image}
 use Rattle.answer.specs.declared.Answer.{Answer}
 use Rattle.answer.specs.declared.Answer.the-variants.{Done, Refused}
 use Rattle.answer.specs.Answer.{numberOf, reasonOf, stepsOf}
-use Rattle.convert.specs.Convert.{keepsBefore, machineBefore, emptied, imagesFit, convertAnswer, imageAfter, convertImage, ConvertIs}
+use Rattle.convert.specs.Convert.{journalBefore, keepsBefore, machineBefore, emptied, imagesFit, convertAnswer, imageAfter, convertImage, ConvertIs}
 use Rattle.convert.proofs.Keeps.{converted-machine, converted-keeps}
 
 abbrev answered : Bool → Bool → Bool → Answer
@@ -45,20 +45,20 @@ module _ (old image : List ℕ) (paper journal : ℕ) where
   abbrev number : ℕ
   number = numberOf (convertAnswer old image paper journal)
 
-  told : By (paperFits paper) (journalFits journal) (imagesFit old image paper journal) number
-  told = by-number (paperFits paper) (journalFits journal) (imagesFit old image paper journal)
+  told : By (paperFits paper) (journalBefore journal) (imagesFit old image paper journal) number
+  told = by-number (paperFits paper) (journalBefore journal) (imagesFit old image paper journal)
 
   -- each number is answered exactly when its condition holds and no lower number's does
   pub number-3 : (number ≡ 3) ↔ (paperFits paper ≡ false)
   number-3 = (told .three, λ p. rw p)
 
-  pub number-4 : (number ≡ 4) ↔ ((paperFits paper ≡ true) × (journalFits journal ≡ false))
+  pub number-4 : (number ≡ 4) ↔ ((paperFits paper ≡ true) × (journalBefore journal ≡ false))
   number-4 = (told .four, λ h. rw (h .0, h .1))
 
-  pub number-5 : (number ≡ 5) ↔ ((paperFits paper ≡ true) × (journalFits journal ≡ true) × (imagesFit old image paper journal ≡ false))
+  pub number-5 : (number ≡ 5) ↔ ((paperFits paper ≡ true) × (journalBefore journal ≡ true) × (imagesFit old image paper journal ≡ false))
   number-5 = (told .five, λ h. rw (h .0, h .1, h .2))
 
-  pub number-0 : (number ≡ 0) ↔ ((paperFits paper ≡ true) × (journalFits journal ≡ true) × (imagesFit old image paper journal ≡ true))
+  pub number-0 : (number ≡ 0) ↔ ((paperFits paper ≡ true) × (journalBefore journal ≡ true) × (imagesFit old image paper journal ≡ true))
   number-0 = (told .none, λ h. rw (h .0, h .1, h .2))
 
   -- a done conversion leaves the image of the old machine, with no steps on hand
@@ -68,21 +68,21 @@ module _ (old image : List ℕ) (paper journal : ℕ) where
       rw (h .0, h .1, h .2)
 
   module _ (e : number ≡ 0) (bytes : Below 256 old) where
-    fits : (length old ≡ 501) × (keepsBefore old paper journal ≡ true)
+    fits : (length old ≡ 509) × (keepsBefore old paper journal ≡ true)
     fits =
-        let h = both (eqb (length old) 501 && eqb (length image) 509) (keepsBefore old paper journal) (number-0 .0 e .2) in
-        (eqb-true (length old) 501 (both (eqb (length old) 501) (eqb (length image) 509) (h .0) .0), h .1)
+        let h = both (eqb (length old) 509 && eqb (length image) 741) (keepsBefore old paper journal) (number-0 .0 e .2) in
+        (eqb-true (length old) 509 (both (eqb (length old) 509) (eqb (length image) 741) (h .0) .0), h .1)
 
     pub done-machine : machineOf (convertImage old image paper journal) ≡ emptied (machineBefore old)
     done-machine = ap machineOf (done-image e) ∙ converted-machine old (fits .0) bytes
 
-    -- which keeps the rules
-    pub done-keeps : goodImage (convertImage old image paper journal) paper journal ≡ true
-    done-keeps = ap (λ (l : List ℕ). goodImage l paper journal) (done-image e) ∙ converted-keeps old (fits .0) bytes paper journal (fits .1)
+    -- which keeps the rules, with a journal of any length: its slots are others than those that were lent
+    pub done-keeps : (now : ℕ) → goodImage (convertImage old image paper journal) paper now ≡ true
+    done-keeps now = ap (λ (l : List ℕ). goodImage l paper now) (done-image e) ∙ converted-keeps old (fits .0) bytes paper journal now (fits .1)
 
   -- done or refused, a conversion reports no steps and no reason
   pub no-steps : (stepsOf (convertAnswer old image paper journal) ≡ 0) × (reasonOf (convertAnswer old image paper journal) ≡ 0)
-  no-steps = by (paperFits paper) (journalFits journal) (imagesFit old image paper journal)
+  no-steps = by (paperFits paper) (journalBefore journal) (imagesFit old image paper journal)
     where
       by : (x y z : Bool) → (stepsOf (answered x y z) ≡ 0) × (reasonOf (answered x y z) ≡ 0)
       by true true true = (refl, refl)

@@ -1,48 +1,57 @@
--- Document 02, L2: "Old images answer 5; one call converts the version before, with the flag 0 and no steps on hand."
-use Prim.Native.Nat.{ℕ, _+_}
+-- Document 02, L2: "Old images answer 5; one call converts the version before, .. and no steps on hand." Since L4 the version before is 2, which has no disks.
+use Prim.Native.Nat.{ℕ, _+_, _*_, _/_, _%_}
 use mathlib.Core.Bool.{Bool, cond, _&&_}
 use mathlib.Core.List.{List, _++_}
 use mathlib.Core.Path.{_≡_}
-use lib.Dec.{eqb}
+use lib.Dec.{eqb, leb}
 use lib.ListN.{length, getD, replicate}
 use Rattle.word.specs.Big.{wordAt}
 use Rattle.state.specs.declared.machine.Machine.{Machine}
-use Rattle.state.specs.Layout.{slotBase, bodyOf, imageLength, machineOf, bytesOf}
-use Rattle.rules.specs.Rules.{machineKeeps}
+use Rattle.state.specs.Layout.{diskWords, disksBase, bodyOf, imageLength, machineOf, bytesOf}
+use Rattle.rules.specs.Rules.{stateKeeps, journalKeeps}
 use Rattle.answer.specs.Answer.{packedOf}
-use Rattle.answer.specs.Lent.{paperFits, journalFits}
+use Rattle.answer.specs.Lent.{paperFits}
 use Rattle.answer.specs.declared.Reason.the-variants.{NoReason}
 use Rattle.answer.specs.declared.Refusal.the-variants.{Paper, Journal, Image}
 use Rattle.answer.specs.declared.Answer.{Answer}
 use Rattle.answer.specs.declared.Answer.the-variants.{Done, Refused}
 
--- ---- the version before: document 01's image, which ends before the words that L2 adds
+-- ---- the version before: its image ends before the words that L4 adds, and its record has 256 bytes
 
--- the length word: 497
+-- the length word: 505
 abbrev pub oldBody : ℕ
-oldBody = bodyOf slotBase
+oldBody = bodyOf disksBase
 
--- 501 bytes
+-- 509 bytes
 abbrev pub oldLength : ℕ
 oldLength = 4 + oldBody
 
--- "length word 497, version 1"
+abbrev pub oldRecord : ℕ
+oldRecord = 256
+
+-- row 4 as it was: "journal is over 16,777,216 bytes or not a multiple of 256 (0 is allowed)"
+abbrev pub journalBefore : ℕ → Bool
+journalBefore len = leb len 16777216 && eqb (len % oldRecord) 0
+
+-- length word 505, version 2
 abbrev pub headerBefore : List ℕ → Bool
-headerBefore old = eqb (wordAt old 0) oldBody && eqb (getD old 4 0) 1
+headerBefore old = eqb (wordAt old 0) oldBody && eqb (getD old 4 0) 2
 
--- the old words, and 0 for the flag and the address
+-- the old words, and 0 for the disks'
 unfoldable pub machineBefore : List ℕ → Machine
-machineBefore old = machineOf (old ++ replicate 8 0)
+machineBefore old = machineOf (old ++ replicate (4 * diskWords) 0)
 
--- The rules of version 1. With the flag and the address 0, L2's own rule holds, so that they are those of version 2.
+-- the rules of version 2, with slots of 256 bytes
 unfoldable pub keepsBefore : List ℕ → ℕ → ℕ → Bool
-keepsBefore old paper journal = headerBefore old && machineKeeps (machineBefore old) paper journal
+keepsBefore old paper journal =
+    let m = machineBefore old in
+    headerBefore old && (stateKeeps m paper && journalKeeps (m .journal) (journal / oldRecord))
 
 -- ---- the call
 
--- "no steps on hand"; next slot stays
+-- "no steps on hand"; the slots are others, so that the first is next
 abbrev pub emptied : Machine → Machine
-emptied m = record { cpu = m .cpu; board = m .board; journal = record { «on_hand» = 0; «next_slot» = m .journal .«next_slot» } }
+emptied m = record { cpu = m .cpu; board = m .board; journal = record { «on_hand» = 0; «next_slot» = 0 } }
 
 -- row 5: either image is of another length, or the old one breaks a rule of its version
 abbrev pub imagesFit : List ℕ → List ℕ → ℕ → ℕ → Bool
@@ -52,7 +61,7 @@ imagesFit old image paper journal = eqb (length old) oldLength && eqb (length im
 abbrev pub convertAnswer : List ℕ → List ℕ → ℕ → ℕ → Answer
 convertAnswer old image paper journal =
     cond (paperFits paper)
-    (cond (journalFits journal) (cond (imagesFit old image paper journal) (Done 0 NoReason) (Refused Image)) (Refused Journal))
+    (cond (journalBefore journal) (cond (imagesFit old image paper journal) (Done 0 NoReason) (Refused Image)) (Refused Journal))
     (Refused Paper)
 
 -- a refusal writes nothing

@@ -90,7 +90,7 @@ module _ (b : Boot) (p : Booted b) where
   pub boot-indexed : Indexed (base (romsAt b)) frames (slotsOf (b .buffers .beside .journal)) (worldAt (resetTo b)) [] (resetTo b .buffers .beside .index)
   boot-indexed =
       let journal = length (b .buffers .beside .journal) in
-      let most = leb-true journal 16777216 (word.both (leb journal 16777216) (eqb (journal % 256) 0) (p .journal-fits) .0) in
+      let most = leb-true journal 16777216 (word.both (leb journal 16777216) (eqb (journal % 512) 0) (p .journal-fits) .0) in
       subst (λ (x : List ℕ). Indexed (base (romsAt b)) frames (slotsOf (b .buffers .beside .journal)) (worldAt (resetTo b)) [] x) (sym boot-zeros)
       (indexed-start (base (romsAt b)) frames (slotsOf (b .buffers .beside .journal)) (worldAt (resetTo b)) (omega (arith, most)))
 

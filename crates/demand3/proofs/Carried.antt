@@ -143,7 +143,7 @@ module _ (b : Boot) (p : Booted b) where
       let long = later-long b p (net (h .events)) in
       let ram = ap (λ (w : World). length (w .ram)) (k .holds .state) ∙ long .0 in
       let paper = ap (λ (w : World). length (w .paper)) (k .holds .state) ∙ long .1 in
-      let slots : slotsOf (lent .journal) ≡ slotsOf (b .buffers .beside .journal) = ap (λ (l : ℕ). l / 256) (k .holds .long) in
+      let slots : slotsOf (lent .journal) ≡ slotsOf (b .buffers .beside .journal) = ap (λ (l : ℕ). l / 512) (k .holds .long) in
       record {
         slots-same = slots;
         ram-fits = ap (λ (l : ℕ). ramFits l) ram ∙ p .ram-fits;

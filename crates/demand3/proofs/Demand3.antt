@@ -188,8 +188,8 @@ module _ (b : Boot) (p : Booted b) (h : Host) (c : Carried b p h) where
         image-is = c .image-is ∙ ap (λ (w : World). bytesOf (machineIn w (machineOf (h .buffers .image) .journal))) (k .holds .state);
         index-is =
             kept-now .holds .beside .bytes
-            ∙ afresh-roms (romsAt b) (frames b p) (worldAt h) (recordsIn 256 n (here .ring))
-            ∙ ap (λ (f : ℕ). afresh (base noRoms) f (worldAt h) (recordsIn 256 n (here .ring))) (ap (λ (l : ℕ). l / 4096) (sym ram-same));
+            ∙ afresh-roms (romsAt b) (frames b p) (worldAt h) (recordsIn 512 n (here .ring))
+            ∙ ap (λ (f : ℕ). afresh (base noRoms) f (worldAt h) (recordsIn 512 n (here .ring))) (ap (λ (l : ℕ). l / 4096) (sym ram-same));
         roms-same = c .roms-same;
         enough = k .enough;
         hand = same;

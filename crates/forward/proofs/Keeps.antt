@@ -49,7 +49,7 @@ module _ (roms : Roms) (slots ram paper journal index : ℕ) where
     pub whole : Whole (lentIn roms (c .state))
     pub ram-long : length (c .state .ram) ≡ ram
     pub paper-long : length (c .state .paper) ≡ paper
-    pub sound : Sound 256 slots (c .ring)
+    pub sound : Sound 512 slots (c .ring)
     pub journal-long : length (c .ring .bytes) ≡ journal
     pub index-long : length (c .side) ≡ index
 
@@ -68,8 +68,8 @@ module _ (roms : Roms) (slots ram paper journal index : ℕ) where
         whole = step-whole roms w (h .whole) some;
         ram-long = same .ram ∙ h .ram-long;
         paper-long = same .paper ∙ h .paper-long;
-        sound = sound-written 256 slots (recordBytes (noteOf distance roms w)) (c .ring) long (h .sound);
-        journal-long = length-written 256 slots (recordBytes (noteOf distance roms w)) (c .ring) long (h .sound) ∙ h .journal-long;
+        sound = sound-written 512 slots (recordBytes (noteOf distance roms w)) (c .ring) long (h .sound);
+        journal-long = length-written 512 slots (recordBytes (noteOf distance roms w)) (c .ring) long (h .sound) ∙ h .journal-long;
         index-long = onward-long (ahead roms) (c .ring) w (c .side) slots ∙ h .index-long;
       }
 
@@ -130,7 +130,7 @@ module _ (b : Buffers) (budget stop : ℕ) (number : runNumber b budget stop ≡
     done-kept =
         let c = ranOf b budget stop .config in
         let n = slotsOf (lent .journal) in
-        let same : n ≡ length (c .ring .bytes) / 256 = ap (λ (k : ℕ). k / 256) (sym (fine .journal-long)) in
+        let same : n ≡ length (c .ring .bytes) / 512 = ap (λ (k : ℕ). k / 512) (sym (fine .journal-long)) in
         record {
           image-good = end-good (c .state) (c .ring) n few (fine .good) (fine .sound) same;
           ram-long = fine .ram-long;

@@ -11,7 +11,7 @@ use Rattle.word.proofs.Cond.{both}
 use Rattle.state.specs.Layout.{bytesOf, machineOf}
 use Rattle.state.specs.declared.machine.Machine.{Machine}
 use Rattle.state.proofs.RoundTrip.{decoded-zero}
-use Rattle.rules.specs.Rules.{headerKeeps, journalKeeps, stateKeeps, machineKeeps, keepsRules}
+use Rattle.rules.specs.Rules.{bytesKeep, journalKeeps, stateKeeps, machineKeeps, keepsRules}
 use Rattle.turn.specs.Buffers.{Buffers, besideOf, buffersOf}
 use Rattle.run.specs.Run.{Fits, RunIs, reasonOf}
 use Rattle.run.specs.declared.Outcome.{Outcome}
@@ -41,9 +41,9 @@ fits-run b passed keeps framed is =
     let ram = length (l .ram) in
     let r = both (eqb (ram % 4096) 0) (between 1 4096 (ram / 4096)) (a .ram-fits) in
     let p = both (leb paper 65536) (eqb (paper % 8) 0) (a .paper-fits) in
-    let f = both (leb journal 16777216) (eqb (journal % 256) 0) (a .journal-fits) in
-    let k = both (headerKeeps (b .image)) (machineKeeps m paper journal) keeps in
-    let j = both (stateKeeps m paper) (journalKeeps (m .journal) (journal / 256)) (k .1) in
+    let f = both (leb journal 16777216) (eqb (journal % 512) 0) (a .journal-fits) in
+    let k = both (bytesKeep (b .image)) (machineKeeps m paper journal) keeps in
+    let j = both (stateKeeps m paper) (journalKeeps (m .journal) (journal / 512)) (k .1) in
     record {
       whole = lent-whole (l .execution) (l .bootstrap) (l .ram) (a .ram-fits) (a .roms-fit);
       short = leb-true paper 65536 (p .0);
@@ -59,28 +59,28 @@ fits-run b passed keeps framed is =
 -- ---- the image, the budget and the index
 
 module _ (b : Buffers) (budget : ℕ) where
-  pub bad-length : (length (b .image) ≡ 509 → ⊥) → imageTest b budget ≡ Failed Image
+  pub bad-length : (length (b .image) ≡ 741 → ⊥) → imageTest b budget ≡ Failed Image
   unfolding imageTest
-  bad-length h = rw (ne-eqb (length (b .image)) 509 h)
+  bad-length h = rw (ne-eqb (length (b .image)) 741 h)
 
-  module _ (long : length (b .image) ≡ 509) where
+  module _ (long : length (b .image) ≡ 741) where
     pub bad-rules : keepsRules (b .image) (length (b .beside .paper)) (length (b .beside .journal)) ≡ false → imageTest b budget ≡ Failed Image
     unfolding imageTest
-    bad-rules e = rw (eq-eqb (length (b .image)) 509 long, e)
+    bad-rules e = rw (eq-eqb (length (b .image)) 741 long, e)
 
     module _ (keeps : keepsRules (b .image) (length (b .beside .paper)) (length (b .beside .journal)) ≡ true) where
       pub bad-budget : 1000000 < budget → imageTest b budget ≡ Failed Range
       unfolding imageTest
-      bad-budget l = rw (eq-eqb (length (b .image)) 509 long, keeps, lt-leb budget 1000000 l)
+      bad-budget l = rw (eq-eqb (length (b .image)) 741 long, keeps, lt-leb budget 1000000 l)
 
       module _ (few : budget ≤ 1000000) where
         pub bad-index : indexFits (length (b .beside .ram)) (length (b .beside .index)) ≡ false → imageTest b budget ≡ Failed Index
         unfolding imageTest
-        bad-index e = rw (eq-eqb (length (b .image)) 509 long, keeps, le-leb budget 1000000 few, e)
+        bad-index e = rw (eq-eqb (length (b .image)) 741 long, keeps, le-leb budget 1000000 few, e)
 
         pub all-passed : indexFits (length (b .beside .ram)) (length (b .beside .index)) ≡ true → imageTest b budget ≡ Passed
         unfolding imageTest
-        all-passed e = rw (eq-eqb (length (b .image)) 509 long, keeps, le-leb budget 1000000 few, e)
+        all-passed e = rw (eq-eqb (length (b .image)) 741 long, keeps, le-leb budget 1000000 few, e)
 
 -- ---- the run
 

@@ -24,7 +24,7 @@ use Rattle.answer.specs.declared.lent.Test.the-variants.{Passed, Failed}
 abbrev pub besideTest : Beside → Test
 besideTest b = lentTest (length (b .execution)) (length (b .bootstrap)) (length (b .ram)) (length (b .paper)) (length (b .journal))
 
--- 5: the image is not 509 bytes or breaks a rule; 6: "a budget over 1,000,000"; 10: the index's length (document 02, L6)
+-- 5: the image is not 741 bytes or breaks a rule; 6: "a budget over 1,000,000"; 10: the index's length (document 02, L6)
 unfoldable pub imageTest : Buffers → ℕ → Test
 imageTest b budget =
     cond (goodImage (b .image) (length (b .beside .paper)) (length (b .beside .journal)))

@@ -42,7 +42,7 @@ fn done(
     stop: u64,
 ) -> Answer
     requires { ⌜ machine ≡ machineOf (now image) ⌝ }
-    requires { ⌜ length (now image) ≡ 509 ⌝ }
+    requires { ⌜ length (now image) ≡ 741 ⌝ }
     requires { ⌜ Fits (besideOf (now execution) (now bootstrap) (now ram) (now paper) (now journal) (now index)) machine ⌝ }
     ensures { λ r. ⌜
         leftOf r (buffersOf (now (image .exit)) (now (execution .entry)) (now (bootstrap .entry)) (now (ram .exit)) (now (paper .exit)) (now (journal .exit)) (now (index .exit)))

@@ -16,7 +16,7 @@ use Rattle.good.proofs.Sound.{good-sound, sound-words, sound-keeps}
 pub good-image : (w : World) (mark : Journal) → (mark .«on_hand» < 2 ^ 32) × (mark .«next_slot» < 2 ^ 32) → Good w → WellTyped (machineIn w mark)
 good-image w mark small g = sound-words w (good-sound w g) mark (each-below (journalWords mark) (omega arith))
 
-pub good-keeps : (w : World) (mark : Journal) (journal : ℕ) → journalKeeps mark (journal / 256) ≡ true → Good w →
+pub good-keeps : (w : World) (mark : Journal) (journal : ℕ) → journalKeeps mark (journal / 512) ≡ true → Good w →
     machineKeeps (machineIn w mark) (length (w .paper)) journal ≡ true
 unfolding machineKeeps
 good-keeps w mark journal slots g = and-true (sound-keeps w (good-sound w g) mark) slots

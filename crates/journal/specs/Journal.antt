@@ -12,13 +12,13 @@ use Rattle.ring.specs.Slots.{Ring, Sound, nextSlot, slot, put}
 use Rattle.record.specs.declared.Record.{Record}
 use Rattle.record.specs.declared.Saved.{Saved}
 use Rattle.record.specs.declared.Saved.the-variants.{Nothing}
-use Rattle.record.specs.Layout.{savedWords, savedBase, begunIn}
+use Rattle.record.specs.Layout.{savedBase, overwrittenWords, begunIn}
 use Rattle.state.specs.declared.machine.Journal.{Journal}
 use Rattle.printer.specs.declared.saved.SavedPaper.{SavedPaper}
 use Rattle.held.specs.Board.{printersIn}
 use Rattle.held.specs.Core.{coreIn}
 
--- "journal length / 256"
+-- journal length / 512 (document 02, L4)
 abbrev pub slotsOf : List ℕ → ℕ
 slotsOf journal = length journal / recordSize
 
@@ -46,17 +46,17 @@ heldRecord core timer pending paper words =
 
 -- A step's record is laid down in two parts, so that the old values need not be kept while the step is decided.
 
--- Before the step: the record at the next slot but for its saved words, which stay those of the slot. Neither word moves, since the record does not count
+-- Before the step: the record at the next slot up to its saved words; from there on the slot's own stay. Neither word moves, since the record does not count
 -- before it is ended.
 abbrev pub begunOf : Journal → Record → List ℕ → List ℕ
 begunOf mark r journal = cond (eqb (slotsOf journal) 0) journal (put journal (recordSize * mark .«next_slot») (begunIn r (slot recordSize journal (mark .«next_slot»))))
 
--- After the decision: the four words of what the step overwrites, which are known only now, at their place in the same slot. Then the record is on hand.
+-- After the decision: the words of what the step overwrites, which are known only now, at their place in the same slot. Then the record is on hand.
 abbrev pub endedOf : Journal → Saved → List ℕ → Ring
 endedOf mark s journal =
     cond (eqb (slotsOf journal) 0) (ringOf mark journal)
     (record {
-      bytes = sets journal (recordSize * mark .«next_slot» + 4 * savedBase) (flat (toBytes 4) (savedWords s));
+      bytes = sets journal (recordSize * mark .«next_slot» + 4 * savedBase) (flat (toBytes 4) (overwrittenWords s));
       hand = min (slotsOf journal) (mark .«on_hand» + 1);
       next = nextSlot (slotsOf journal) (mark .«next_slot»);
     })

@@ -12,11 +12,13 @@ use record::encode::encode;
 use record::encode::saved_words;
 use state::machine::Journal;
 
-// The bytes of a slot. Request L4 makes it 512, here and in specs/Journal.antt.
-pub const SLOT: usize = 256;
+// The bytes of a slot.
+pub const SLOT: usize = 512;
 
-// Where in a slot the words of what is saved begin (docs/RECORD.md).
-const SAVED: usize = 76;
+// Where in a slot what the step overwrites begins (docs/RECORD.md).
+const SAVED: usize = 236;
+
+const UNUSED: usize = SAVED + 16;
 
 fn put_record(
     journal: &mut [u8],
@@ -27,13 +29,13 @@ fn put_record(
     paper: SavedPaper,
     words: &[u32; 40],
 )
-    requires { ⌜ next < length (now journal) / 256 ⌝ }
+    requires { ⌜ next < length (now journal) / 512 ⌝ }
     requires { ⌜ length (now core) ≡ 14 ⌝ }
     requires { ⌜ length (now words) ≡ 40 ⌝ }
     ensures { λ _. ⌜
         now (journal .exit)
-        ≡ put (now (journal .entry)) (256 * next)
-        (begunIn (heldRecord (now (core .entry)) timer pending paper (now (words .entry))) (slot 256 (now (journal .entry)) next))
+        ≡ put (now (journal .entry)) (512 * next)
+        (begunIn (heldRecord (now (core .entry)) timer pending paper (now (words .entry))) (slot 512 (now (journal .entry)) next))
         ⌝ }
 {
     let at = SLOT * next;
@@ -78,6 +80,8 @@ pub fn ended(journal: &mut [u8], mark: Journal, s: Saved) -> Journal
     }
     let words = saved_words(s);
     put_words(&words, journal, SLOT * next + SAVED);
+    let rest = [0u32; 65];
+    put_words(&rest, journal, SLOT * next + UNUSED);
     let after = ring::next_slot(slots, next) as u32;
     if (hand as usize) < slots {
         return Journal {

@@ -26,7 +26,7 @@ suc-sub-one m = omega arith
 
 module _ (g : Ring) (time : ℕ) (x : List ℕ) where
   abbrev oldest : Saved
-  oldest = recordOf (slot 256 (g .bytes) (g .next)) .saved
+  oldest = recordOf (slot 512 (g .bytes) (g .next)) .saved
 
   -- the index with that record forgotten, of n slots
   abbrev without : ℕ → List ℕ

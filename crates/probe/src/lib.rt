@@ -14,7 +14,7 @@ use rules::judged;
 fn keeps(image: &[u8], paper: usize, journal: usize) -> bool
     ensures { λ r. ⌜ r ≡ goodImage (now (image .entry)) paper journal ⌝ }
 {
-    if image.len() != 509 {
+    if image.len() != 741 {
         return false;
     }
     let verdict = judged(image, paper, journal);

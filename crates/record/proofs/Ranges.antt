@@ -78,9 +78,9 @@ module _ (r : Record) (h : Parts r) where
       let small = smallWords (r .timer) (r .pending) (r .paper .mask) (r .paper .bytes) in
       let saved = savedWords (r .saved) in
       let printers = flat printerWords (r .printers) in
-      below-append (keptWords (r .core)) (small ++ (saved ++ (printers ++ unused))) (h .core)
-      (below-append small (saved ++ (printers ++ unused)) small-words
-      (below-append saved (printers ++ unused) (h .saved-words) (below-append printers unused (h .printer-words) zeros)))
+      below-append (keptWords (r .core)) (small ++ (printers ++ (saved ++ unused))) (h .core)
+      (below-append small (printers ++ (saved ++ unused)) small-words
+      (below-append printers (saved ++ unused) (h .printer-words) (below-append saved unused (h .saved-words) zeros)))
 
   pub ranged : Ranged r
   ranged =

@@ -17,12 +17,13 @@ use Rattle.memory.proofs.Cells.{read-written, write-read, cells-small}
 use Rattle.memory.proofs.OneCell.{load-small}
 use Rattle.printer.specs.declared.Printer.{Printer}
 use Rattle.printer.specs.Tick.{noPrinter}
+use Rattle.printer.proofs.Each.{each-holds}
 use Rattle.state.specs.Layout.{keptWords, coreFrom, printerWords}
 use Rattle.record.specs.declared.Record.{Record}
 use Rattle.record.specs.declared.Saved.{Saved}
 use Rattle.record.specs.declared.Saved.the-variants.{Nothing, Register, TlbRow, RamWord}
-use Rattle.record.specs.Layout.{savedWords, layoutOf, recordBytes, paperAt, savedAt, printerAt, recordAt, slotWord, recordOf}
-use Rattle.record.specs.Keeps.{savedKeeps, savedRanged, paperKeeps, wordsKeep, keepsLayout, Ranged}
+use Rattle.record.specs.Layout.{unused, unusedWords, savedWords, layoutOf, recordBytes, paperAt, savedAt, printerAt, recordAt, slotWord, recordOf}
+use Rattle.record.specs.Keeps.{savedKeeps, savedRanged, paperKeeps, restKeeps, wordsKeep, keepsLayout, Ranged}
 use Rattle.record.proofs.Stored.{length-layout, length-words}
 
 -- ---- what was encoded is decoded to the same record
@@ -64,19 +65,19 @@ read-whole r t =
     (own-printers (r .printers) (t .printers)) (read-spelt r (r .saved) (λ (i : ℕ). getD (r .printers) i noPrinter))
     ∙ ap (λ (bytes : List ℕ). with-parts r bytes (r .saved) (r .printers)) (own-bytes (r .paper .bytes) (t .eight) (t .bytes))
 
--- only the first 64 words are read
-read-from-list : (f : ℕ → ℕ) → recordAt f ≡ recordAt (λ (k : ℕ). getD (tabulate 64 f) k 0)
+-- only the first 128 words are read
+read-from-list : (f : ℕ → ℕ) → recordAt f ≡ recordAt (λ (k : ℕ). getD (tabulate 128 f) k 0)
 unfolding recordAt
 read-from-list f = refl
 
 -- the words of an encoded record are the layout's
-words-there : (r : Record) → Ranged r → tabulate 64 (slotWord (recordBytes r)) ≡ layoutOf r
+words-there : (r : Record) → Ranged r → tabulate 128 (slotWord (recordBytes r)) ≡ layoutOf r
 unfolding recordBytes
 words-there r t =
     let ws = layoutOf r in
     let n = length-layout r (t .printers) in
     let f = slotWord (flat (toBytes 4) ws) in
-    tabulate-ext 64 f (λ (k : ℕ). getD ws k 0) (λ k h. read-written 4 ws k (omega (arith, n)) (t .small k (omega (arith, n))))
+    tabulate-ext 128 f (λ (k : ℕ). getD ws k 0) (λ k h. read-written 4 ws k (omega (arith, n)) (t .small k (omega (arith, n))))
     ∙ (rw n at (tabulate-getD ws 0))
 
 pub decode-encode : (r : Record) → Ranged r → recordOf (recordBytes r) ≡ r
@@ -95,7 +96,7 @@ spelt-keeps r (Register n old) p e w = rw (e, w)
 spelt-keeps r (TlbRow i row) p e w = rw (e, w)
 spelt-keeps r (RamWord place old distance) p e w = rw (e, w)
 
-keep-from-list : (f : ℕ → ℕ) → wordsKeep f ≡ wordsKeep (λ (k : ℕ). getD (tabulate 64 f) k 0)
+keep-from-list : (f : ℕ → ℕ) → wordsKeep f ≡ wordsKeep (λ (k : ℕ). getD (tabulate 128 f) k 0)
 keep-from-list f = refl
 
 pub encode-keeps : (r : Record) → Ranged r → keepsLayout (recordBytes r) ≡ true
@@ -157,20 +158,26 @@ module _ (which first second : ℕ) where
 two-words : (a b : ℕ) → a < 2 ^ 32 → b < 2 ^ 32 → let bytes = flat (toBytes 4) (a ∷ b ∷ []) in (loadAt 4 bytes 0 ≡ a) × (loadAt 4 bytes 4 ≡ b)
 two-words a b ha hb = (read-written 4 (a ∷ b ∷ []) 0 (omega arith) ha, read-written 4 (a ∷ b ∷ []) 1 (omega arith) hb)
 
+-- the unused words, which are 0
+rest-zero : (f : ℕ → ℕ) → restKeeps f ≡ true → unused ≡ tabulate unusedWords (λ (k : ℕ). f (63 + k))
+rest-zero f e =
+    tabulate-ext unusedWords (λ (k : ℕ). 0) (λ (k : ℕ). f (63 + k))
+    (λ k h. sym (eqb-true (f (63 + k)) 0 (each-holds unusedWords (λ (k : ℕ). eqb (f (63 + k)) 0) e k h)))
+
 -- the layout's words are the words in their order
-in-order : (f : ℕ → ℕ) → f 17 < 2 ^ 32 → f 18 < 2 ^ 32 → wordsKeep f ≡ true → layoutOf (recordAt f) ≡ tabulate 64 f
+in-order : (f : ℕ → ℕ) → f 17 < 2 ^ 32 → f 18 < 2 ^ 32 → wordsKeep f ≡ true → layoutOf (recordAt f) ≡ tabulate 128 f
 unfolding layoutOf recordAt
 in-order f h₁ h₂ e =
     let kept = both _ _ e in
-    let saved = saved-is (f 20) (f 21) (f 22) (f 19) (both _ _ (kept .0) .0) in
+    let saved = saved-is (f 60) (f 61) (f 62) (f 59) (both _ _ (kept .0) .0) in
     let bytes = two-words (f 17) (f 18) h₁ h₂ in
-    let unused : ℕ → List ℕ = λ x. x ∷ [] in
+    let rest = rest-zero f (kept .1) in
     λ i.
     keptWords (coreFrom 0 12 f)
     ++ ((f 14 ∷ f 15 ∷ f 16 ∷ bytes .0 i ∷ bytes .1 i ∷ [])
-    ++ (saved .words i
     ++ (flat printerWords (tabulate 8 (printerAt f))
-    ++ unused (sym (eqb-true (f 63) 0 (kept .1)) i))))
+    ++ (saved .words i
+    ++ rest i)))
 
 -- the parts of a record that is read
 printers-eight : (f : ℕ → ℕ) → length (recordAt f .printers) ≡ 8
@@ -181,9 +188,9 @@ bytes-eight : (f : ℕ → ℕ) → length (recordAt f .paper .bytes) ≡ 8
 unfolding recordAt
 bytes-eight f = length-words (f 17 ∷ f 18 ∷ [])
 
-saved-ranged : (f : ℕ → ℕ) → savedKeeps (f 19) (f 20) (f 21) (f 22) ≡ true → savedRanged (recordAt f .saved) ≡ true
+saved-ranged : (f : ℕ → ℕ) → savedKeeps (f 59) (f 60) (f 61) (f 62) ≡ true → savedRanged (recordAt f .saved) ≡ true
 unfolding recordAt
-saved-ranged f e = saved-is (f 20) (f 21) (f 22) (f 19) e .ranged
+saved-ranged f e = saved-is (f 60) (f 61) (f 62) (f 59) e .ranged
 
 paper-kept : (f : ℕ → ℕ) → paperKeeps (paperAt f) ≡ true → paperKeeps (recordAt f .paper) ≡ true
 unfolding recordAt
@@ -193,18 +200,18 @@ bytes-small : (f : ℕ → ℕ) → Below 256 (recordAt f .paper .bytes)
 unfolding recordAt
 bytes-small f = cells-small 4 (f 17 ∷ f 18 ∷ [])
 
-module _ (b : List ℕ) (long : length b ≡ 256) (bytes : Below 256 b) where
-  slot-small : (k : ℕ) → k < 64 → slotWord b k < 2 ^ 32
+module _ (b : List ℕ) (long : length b ≡ 512) (bytes : Below 256 b) where
+  slot-small : (k : ℕ) → k < 128 → slotWord b k < 2 ^ 32
   slot-small k h = load-small 4 b (4 * k) (omega arith) bytes
 
   module _ (keeps : keepsLayout b ≡ true) where
-    ordered : layoutOf (recordAt (slotWord b)) ≡ tabulate 64 (slotWord b)
+    ordered : layoutOf (recordAt (slotWord b)) ≡ tabulate 128 (slotWord b)
     unfolding keepsLayout
     ordered = in-order (slotWord b) (slot-small 17 (omega arith)) (slot-small 18 (omega arith)) keeps
 
     pub encode-decode : recordBytes (recordOf b) ≡ b
     unfolding recordBytes recordOf
-    encode-decode = ap (flat (toBytes 4)) ordered ∙ write-read 4 64 b (omega arith) bytes ∙ take-all 256 b (omega arith)
+    encode-decode = ap (flat (toBytes 4)) ordered ∙ write-read 4 128 b (omega arith) bytes ∙ take-all 512 b (omega arith)
 
     -- and is such a record
     pub decoded-ranged : Ranged (recordOf b)
@@ -212,7 +219,7 @@ module _ (b : List ℕ) (long : length b ≡ 256) (bytes : Below 256 b) where
     decoded-ranged =
         let f = slotWord b in
         let tests = both _ _ (both _ _ keeps .0) in
-        let words : Below (2 ^ 32) (tabulate 64 f) = λ i h. rw (getD-tabulate 64 f i 0 h) (slot-small i h) in
+        let words : Below (2 ^ 32) (tabulate 128 f) = λ i h. rw (getD-tabulate 128 f i 0 h) (slot-small i h) in
         record {
           printers = printers-eight f;
           eight = bytes-eight f;

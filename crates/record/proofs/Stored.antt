@@ -36,10 +36,10 @@ length-saved (TlbRow _ _) = refl
 length-saved (RamWord _ _ _) = refl
 
 module _ (r : Record) (eight : length (r .printers) ≡ 8) where
-  pub length-layout : length (layoutOf r) ≡ 64
+  pub length-layout : length (layoutOf r) ≡ 128
   unfolding layoutOf
   length-layout = simp length-append (omega (arith, length-saved (r .saved), length-flat 5 printerWords (λ p. refl) (r .printers), eight))
 
-  pub length-bytes : length (recordBytes r) ≡ 256
+  pub length-bytes : length (recordBytes r) ≡ 512
   unfolding recordBytes
   length-bytes = omega (arith, length-words (layoutOf r), length-layout)

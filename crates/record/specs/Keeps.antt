@@ -13,7 +13,7 @@ use Rattle.printer.specs.declared.saved.SavedPaper.{SavedPaper}
 use Rattle.record.specs.declared.Record.{Record}
 use Rattle.record.specs.declared.Saved.{Saved}
 use Rattle.record.specs.declared.Saved.the-variants.{Nothing, Register, TlbRow, RamWord}
-use Rattle.record.specs.Layout.{distanceRoom, layoutOf, savedBase, unusedBase, slotWord, paperAt}
+use Rattle.record.specs.Layout.{distanceRoom, layoutOf, savedBase, unusedBase, unusedWords, slotWord, paperAt}
 
 -- a printer that did not write has 0 for its byte
 abbrev pub byteKeeps : SavedPaper → ℕ → Bool
@@ -30,8 +30,9 @@ savedKeeps kind which first second =
     (cond (eqb kind 1) (between 1 31 which && eqb second 0)
     (cond (eqb kind 2) (ltb which tableSize) (cond (eqb kind 3) (eqb (which % 4) 0 && ltb second distanceRoom) false)))
 
+-- the words that are unused are 0
 abbrev pub restKeeps : (ℕ → ℕ) → Bool
-restKeeps word = eqb (word unusedBase) 0
+restKeeps word = every unusedWords (λ (k : ℕ). eqb (word (unusedBase + k)) 0)
 
 abbrev pub wordsKeep : (ℕ → ℕ) → Bool
 wordsKeep word =

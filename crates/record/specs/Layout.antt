@@ -1,10 +1,10 @@
--- The layout of a step's record: 64 words, least significant byte first. `layoutOf` is RECORD.md; `recordAt` reads it back, and
+-- The layout of a step's record: 128 words, least significant byte first. `layoutOf` is RECORD.md; `recordAt` reads it back, and
 -- proofs/RoundTrip.antt shows that the two agree.
 use Prim.Native.Nat.{ℕ, _+_, _*_}
 use mathlib.Core.Bool.{cond}
 use mathlib.Core.List.{List, [], _∷_, _++_}
 use lib.Dec.{eqb}
-use lib.ListN.{take, drop}
+use lib.ListN.{drop, replicate}
 use Rattle.word.specs.Lists.{tabulate, flat, joined}
 use Rattle.word.specs.Sizes.{devices}
 use Rattle.word.specs.Little.{toBytes}
@@ -33,16 +33,21 @@ savedWords (Register n old) = 1 ∷ n ∷ old ∷ 0 ∷ []
 savedWords (TlbRow i row) = 2 ∷ i ∷ rowWords row
 savedWords (RamWord place old distance) = 3 ∷ place ∷ old ∷ distance ∷ []
 
-abbrev pub unused : List ℕ
-unused = 0 ∷ []
+-- room for the disks of document 02, L4, and for later requests
+abbrev pub unusedWords : ℕ
+unusedWords = 65
 
--- THE layout: groups of words, one after the other, so that a version adds a group or takes a word that is unused
+abbrev pub unused : List ℕ
+unused = replicate unusedWords 0
+
+-- THE layout: groups of words, one after the other, so that a version adds a group or takes a word that is unused. What a step finds stands first, what it overwrites
+-- behind it.
 abbrev pub groupsOf : Record → List (List ℕ)
 groupsOf r =
     keptWords (r .core)
     ∷ smallWords (r .timer) (r .pending) (r .paper .mask) (r .paper .bytes)
-    ∷ savedWords (r .saved)
     ∷ flat printerWords (r .printers)
+    ∷ savedWords (r .saved)
     ∷ unused
     ∷ []
 
@@ -53,14 +58,14 @@ layoutOf r = joined (groupsOf r)
 abbrev pub smallBase : ℕ
 smallBase = 14
 
-abbrev pub savedBase : ℕ
-savedBase = smallBase + 5
-
 abbrev pub printersBase : ℕ
-printersBase = savedBase + 4
+printersBase = smallBase + 5
+
+abbrev pub savedBase : ℕ
+savedBase = printersBase + 5 * devices
 
 abbrev pub unusedBase : ℕ
-unusedBase = printersBase + 5 * devices
+unusedBase = savedBase + 4
 
 unfoldable pub recordBytes : Record → List ℕ
 recordBytes r = flat (toBytes 4) (layoutOf r)
@@ -99,13 +104,17 @@ recordOf slot = recordAt (slotWord slot)
 
 -- ---- aids to proofs: nothing that a reader must believe
 
--- the bytes of the saved words in a slot
-abbrev pub savedIn : List ℕ → List ℕ
-savedIn slot = take 16 (drop (4 * savedBase) slot)
+-- the bytes of a slot from the saved words on
+abbrev pub behindIn : List ℕ → List ℕ
+behindIn slot = drop (4 * savedBase) slot
 
--- what is laid down in a slot before a step is decided, of the words that a run holds: all but the saved words, whose old bytes stay, since the oldest record may stand there
+-- what is laid down in a slot before a step is decided, of the words that a run holds: all up to the saved words. The old bytes stay from there on, since the oldest record may stand there
 unfoldable pub laidOf : List ℕ → List ℕ → List ℕ → List ℕ → List ℕ
-laidOf core small printers slot = flat (toBytes 4) (core ++ small) ++ (savedIn slot ++ flat (toBytes 4) (printers ++ unused))
+laidOf core small printers slot = flat (toBytes 4) (core ++ (small ++ printers)) ++ behindIn slot
+
+-- what is laid down once it is decided
+abbrev pub overwrittenWords : Saved → List ℕ
+overwrittenWords s = savedWords s ++ unused
 
 -- the same, of a record
 abbrev pub begunIn : Record → List ℕ → List ℕ

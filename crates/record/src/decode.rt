@@ -1,4 +1,4 @@
-// From bytes to a record: any 256 bytes give one. Whether they keep the layout is asked in `keeps`.
+// From bytes to a record: any 512 bytes give one. Whether they keep the layout is asked in `keeps`.
 ghost use mathlib.Core.Path.{_≡_};
 ghost use Prim.Native.Nat.{_<_};
 ghost use lib.ListN.{length};
@@ -20,15 +20,15 @@ use state::machine::Core;
 use tlb::Row;
 
 pub fn word(slot: &[u8], k: usize) -> u32
-    requires { ⌜ length (now slot) ≡ 256 ⌝ }
-    requires { ⌜ k < 64 ⌝ }
+    requires { ⌜ length (now slot) ≡ 512 ⌝ }
+    requires { ⌜ k < 128 ⌝ }
     ensures { λ r. ⌜ r ≡ slotWord (now (slot .entry)) k ⌝ }
 {
     load_word(slot, 4 * k)
 }
 
 fn cp0(slot: &[u8]) -> Cp0
-    requires { ⌜ length (now slot) ≡ 256 ⌝ }
+    requires { ⌜ length (now slot) ≡ 512 ⌝ }
     ensures { λ r. ⌜ r ≡ cp0From 4 (slotWord (now (slot .entry))) ⌝ }
 {
     Cp0 {
@@ -44,7 +44,7 @@ fn cp0(slot: &[u8]) -> Cp0
 }
 
 fn core(slot: &[u8]) -> Core
-    requires { ⌜ length (now slot) ≡ 256 ⌝ }
+    requires { ⌜ length (now slot) ≡ 512 ⌝ }
     ensures { λ r. ⌜ r ≡ coreFrom 0 12 (slotWord (now (slot .entry))) ⌝ }
 {
     Core {
@@ -59,7 +59,7 @@ fn core(slot: &[u8]) -> Core
 }
 
 pub fn paper(slot: &[u8]) -> SavedPaper
-    requires { ⌜ length (now slot) ≡ 256 ⌝ }
+    requires { ⌜ length (now slot) ≡ 512 ⌝ }
     ensures { λ r. ⌜ r ≡ paperAt (slotWord (now (slot .entry))) ⌝ }
 {
     let words = [word(slot, 17), word(slot, 18)];
@@ -88,23 +88,23 @@ fn saved_by(kind: u32, which: u32, first: u32, second: u32) -> Saved
 
 // What the record that a slot holds saved: all that the index asks of it.
 pub fn saved(slot: &[u8]) -> Saved
-    requires { ⌜ length (now slot) ≡ 256 ⌝ }
+    requires { ⌜ length (now slot) ≡ 512 ⌝ }
     ensures { λ r. ⌜ r ≡ recordOf (now (slot .entry)) .saved ⌝ }
 {
     saved_by(
         word(slot, KIND),
         word(slot, PLACE),
         word(slot, OLD),
-        word(slot, 22),
+        word(slot, 62),
     )
 }
 
 fn printer(slot: &[u8], i: usize) -> Printer
-    requires { ⌜ length (now slot) ≡ 256 ⌝ }
+    requires { ⌜ length (now slot) ≡ 512 ⌝ }
     requires { ⌜ i < 8 ⌝ }
     ensures { λ r. ⌜ r ≡ printerAt (slotWord (now (slot .entry))) i ⌝ }
 {
-    let at = 5 * i + 23;
+    let at = 5 * i + 19;
     Printer {
         status: word(slot, at),
         command: word(slot, at + 1),
@@ -115,7 +115,7 @@ fn printer(slot: &[u8], i: usize) -> Printer
 }
 
 fn printers(slot: &[u8]) -> [Printer; 8]
-    requires { ⌜ length (now slot) ≡ 256 ⌝ }
+    requires { ⌜ length (now slot) ≡ 512 ⌝ }
     ensures { λ r. ⌜ r ≡ tabulate 8 (printerAt (slotWord (now (slot .entry)))) ⌝ }
 {
     let absent = Printer {
@@ -134,7 +134,7 @@ fn printers(slot: &[u8]) -> [Printer; 8]
 
 // The record that a slot holds.
 pub fn decode(slot: &[u8]) -> Record
-    requires { ⌜ length (now slot) ≡ 256 ⌝ }
+    requires { ⌜ length (now slot) ≡ 512 ⌝ }
     ensures { λ r. ⌜ r ≡ recordOf (now (slot .entry)) ⌝ }
 {
     let core = core(slot);

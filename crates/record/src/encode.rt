@@ -31,9 +31,9 @@ pub fn saved_words(s: Saved) -> [u32; 4]
     }
 }
 
-// Lays down the record of what a run holds, each part as the words that it is held as, since this runs at every step. What is saved is known only when the step
-// is decided: till then its words stay as they are, since those of the oldest record may stand there and are asked for once more. The copies to a local, and the
-// printers' words in two halves, let the compiler move many words at a time.
+// Lays down the record of what a run holds, each part as the words that it is held as, since this runs at every step. What the step overwrites is known only when it
+// is decided: till then the words from there on stay as they are, since those of the oldest record may stand there and are asked for once more. The copies to a local,
+// and the printers' words in two halves, let the compiler move many words at a time.
 pub fn encode(
     core: &[u32; 14],
     timer: u32,
@@ -42,7 +42,7 @@ pub fn encode(
     words: &[u32; 40],
     slot: &mut [u8],
 )
-    requires { ⌜ length (now slot) ≡ 256 ⌝ }
+    requires { ⌜ length (now slot) ≡ 512 ⌝ }
     requires { ⌜ length (now core) ≡ 14 ⌝ }
     requires { ⌜ length (now words) ≡ 40 ⌝ }
     ensures { λ _. ⌜ now (slot .exit) ≡ laidOf (now (core .entry)) (smallWords timer pending (paper .mask) (paper .bytes)) (now (words .entry)) (now (slot .entry)) ⌝ }
@@ -53,8 +53,6 @@ pub fn encode(
     put_words(&first, slot, 0);
     put_words(&small, slot, 56);
     let printers = *words;
-    put_words(&printers[0..20], slot, 92);
-    put_words(&printers[20..40], slot, 172);
-    let rest = [0u32; 1];
-    put_words(&rest, slot, 252);
+    put_words(&printers[0..20], slot, 76);
+    put_words(&printers[20..40], slot, 156);
 }

@@ -3,6 +3,9 @@ ghost use mathlib.Core.Path.{_≡_};
 ghost use lib.ListN.{length};
 ghost use Rattle.record.specs.Layout.{slotWord};
 ghost use Rattle.record.specs.Keeps.{paperKeeps, savedKeeps, restKeeps, keepsLayout};
+use crate::KIND;
+use crate::OLD;
+use crate::PLACE;
 use crate::decode::paper;
 use crate::decode::word;
 use printer::saved::SavedPaper;
@@ -33,21 +36,25 @@ fn paper_keeps(p: SavedPaper) -> bool
 }
 
 fn rest_keeps(slot: &[u8]) -> bool
-    requires { ⌜ length (now slot) ≡ 256 ⌝ }
+    requires { ⌜ length (now slot) ≡ 512 ⌝ }
     ensures { λ r. ⌜ r ≡ restKeeps (slotWord (now (slot .entry))) ⌝ }
 {
-    word(slot, 63) == 0
+    let mut ok = true;
+    for k in 0..65 {
+        ok = ok & (word(slot, 63 + k) == 0);
+    }
+    ok
 }
 
 pub fn keeps_layout(slot: &[u8]) -> bool
-    requires { ⌜ length (now slot) ≡ 256 ⌝ }
+    requires { ⌜ length (now slot) ≡ 512 ⌝ }
     ensures { λ r. ⌜ r ≡ keepsLayout (now (slot .entry)) ⌝ }
 {
     saved_keeps(
-        word(slot, 19),
-        word(slot, 20),
-        word(slot, 21),
-        word(slot, 22),
+        word(slot, KIND),
+        word(slot, PLACE),
+        word(slot, OLD),
+        word(slot, 62),
     )
         & paper_keeps(paper(slot))
         & rest_keeps(slot)

@@ -1,4 +1,4 @@
-// The record of a step: what the step overwrites, as a value and as the 256 bytes of a journal's slot (docs/RECORD.md).
+// The record of a step: what the step overwrites, as a value and as the 512 bytes of a journal's slot (docs/RECORD.md).
 pub mod decode; // from bytes to a record
 pub mod encode; // from a record to bytes
 pub mod keeps; // whether bytes keep the layout
@@ -11,11 +11,11 @@ use tlb::Row;
 // The words of a record that are also asked for one by one: where PC stands, the kind of what was saved, and of a word of RAM its place and old value.
 pub const PC: usize = 2;
 
-pub const KIND: usize = 19;
+pub const KIND: usize = 59;
 
-pub const PLACE: usize = 20;
+pub const PLACE: usize = 60;
 
-pub const OLD: usize = 21;
+pub const OLD: usize = 61;
 
 // The kind of a word of RAM.
 pub const RAM: u32 = 3;

@@ -14,19 +14,19 @@ use Rattle.answer.specs.declared.Answer.the-variants.{Done, Refused}
 use Rattle.reset.specs.Reset.{resetAnswer}
 
 module _ (image index : List ℕ) (scale delay installed : ℕ) where
-  pub says-bad-length : (length image ≡ 509 → ⊥) → resetAnswer image index scale delay installed ≡ Refused Image
-  says-bad-length h = rw (ne-eqb (length image) 509 h)
+  pub says-bad-length : (length image ≡ 741 → ⊥) → resetAnswer image index scale delay installed ≡ Refused Image
+  says-bad-length h = rw (ne-eqb (length image) 741 h)
 
-  pub says-bad-range : length image ≡ 509 → rangesKeep scale delay installed ≡ false → resetAnswer image index scale delay installed ≡ Refused Range
-  says-bad-range h r = rw (eq-eqb (length image) 509 h) (rw r)
+  pub says-bad-range : length image ≡ 741 → rangesKeep scale delay installed ≡ false → resetAnswer image index scale delay installed ≡ Refused Range
+  says-bad-range h r = rw (eq-eqb (length image) 741 h) (rw r)
 
-  pub says-bad-index : length image ≡ 509 → rangesKeep scale delay installed ≡ true → anyIndexFits (length index) ≡ false →
+  pub says-bad-index : length image ≡ 741 → rangesKeep scale delay installed ≡ true → anyIndexFits (length index) ≡ false →
       resetAnswer image index scale delay installed ≡ Refused Index
-  says-bad-index h r f = rw (eq-eqb (length image) 509 h) (rw r (rw f))
+  says-bad-index h r f = rw (eq-eqb (length image) 741 h) (rw r (rw f))
 
-  pub says-done : length image ≡ 509 → rangesKeep scale delay installed ≡ true → anyIndexFits (length index) ≡ true →
+  pub says-done : length image ≡ 741 → rangesKeep scale delay installed ≡ true → anyIndexFits (length index) ≡ true →
       resetAnswer image index scale delay installed ≡ Done 0 NoReason
-  says-done h r f = rw (eq-eqb (length image) 509 h) (rw r (rw f))
+  says-done h r f = rw (eq-eqb (length image) 741 h) (rw r (rw f))
 
 pub record InRange (s d i : ℕ) : Type 0 where
   pub scale-low : 1 ≤ s

@@ -6,15 +6,14 @@ use mathlib.Core.List.{[], _∷_, _++_}
 use native.Mathlib.Omega.{arith}
 use lib.ListN.{drop}
 use lib.Dec.{leb·zero}
-use borrow.Author.Tests.{lt-ltb}
 use Rattle.word.specs.Lists.{flat, Below}
 use Rattle.word.specs.Map.{bit}
 use Rattle.word.proofs.Cond.{and-true}
 use Rattle.word.proofs.Lists.{below-append, below-numerals, below-flat}
 use Rattle.printer.specs.Rules.{printerKeeps, presentKeeps, lineKeeps}
-use Rattle.state.specs.Layout.{coreWords, slotWords, rowWords, clockWords, settingsWords, printerWords, journalWords, wordsOf, bytesOf, WellTyped}
-use Rattle.rules.specs.Rules.{rangesKeep, journalKeeps, stateKeeps, machineKeeps, goodImage}
-use Rattle.rules.proofs.Good.{encoded-good}
+use Rattle.state.specs.Layout.{coreWords, slotWords, rowWords, clockWords, settingsWords, printerWords, journalWords, noDisks, wordsOf, bytesOf, WellTyped}
+use Rattle.rules.specs.Rules.{rangesKeep, stateKeeps, machineKeeps, goodImage}
+use Rattle.rules.proofs.Good.{none-kept, encoded-good}
 use Rattle.reset.specs.Reset.{freshPrinter, resetCpu, resetBoard, resetMachine}
 use Rattle.reset.proofs.Answers.{InRange, in-range}
 
@@ -31,10 +30,6 @@ line-keeps scale delay installed room =
     and-true
     (and-true (and-true (and-true (and-true (and-true (and-true (fresh 0) (fresh 1)) (fresh 2)) (fresh 3)) (fresh 4)) (fresh 5)) (fresh 6))
     (fresh 7)
-
-journal-keeps : (slots : ℕ) → journalKeeps (record { «on_hand» = 0; «next_slot» = 0 }) slots ≡ true
-journal-keeps zero = refl
-journal-keeps (suc n) = rw (leb·zero (suc n), lt-ltb 0 (suc n) (omega arith))
 
 -- every word of the machine is a word
 printer-small : (on : Bool) → Below (2 ^ 32) (printerWords (freshPrinter on))
@@ -54,7 +49,7 @@ module _ (scale delay installed : ℕ) (r : InRange scale delay installed) where
       let m = resetMachine scale delay installed in
       let front = drop 1 (m .cpu .regs) ++ (coreWords (m .cpu .core) ++ (flat rowWords (m .cpu .tlb) ++ clockWords (m .board .clock))) in
       let printers = flat printerWords (m .board .line .printers) in
-      let last = m .board .line .pending ∷ (journalWords (m .journal) ++ slotWords (m .cpu .core)) in
+      let last = m .board .line .pending ∷ (journalWords (m .journal) ++ (slotWords (m .cpu .core) ++ noDisks)) in
       below-append front (settingsWords (m .board .settings) ++ (printers ++ last)) (below-numerals front refl)
       (below-append (settingsWords (m .board .settings)) (printers ++ last) settings
       (below-append printers last
@@ -69,7 +64,7 @@ pub machine-keeps : (scale delay installed : ℕ) → rangesKeep scale delay ins
     machineKeeps (resetMachine scale delay installed) paper journal ≡ true
 unfolding machineKeeps stateKeeps resetMachine resetCpu resetBoard
 machine-keeps scale delay installed e paper journal =
-    and-true (and-true (and-true (and-true refl e) (line-keeps scale delay installed (paper / 8))) refl) (journal-keeps (journal / 256))
+    and-true (and-true (and-true (and-true refl e) (line-keeps scale delay installed (paper / 8))) refl) (none-kept (journal / 512))
 
 pub reset-keeps : (scale delay installed : ℕ) → rangesKeep scale delay installed ≡ true → (paper journal : ℕ) →
     goodImage (bytesOf (resetMachine scale delay installed)) paper journal ≡ true

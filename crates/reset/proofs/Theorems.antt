@@ -42,41 +42,41 @@ module _ (image index : List ℕ) (scale delay installed : ℕ) where
   number = numberOf answer
 
   abbrev rows : List Row
-  rows = rowsOf (eqb (length image) 509) (rangesKeep scale delay installed) (anyIndexFits (length index))
+  rows = rowsOf (eqb (length image) 741) (rangesKeep scale delay installed) (anyIndexFits (length index))
 
   led : (k : ℕ) → number ≡ numberAt k rows → First k rows
   led k =
       number-exact rows (omega arith, (omega arith, (omega arith, tt))) number
-      (by-rows (eqb (length image) 509) (rangesKeep scale delay installed) (anyIndexFits (length index))) k .0
+      (by-rows (eqb (length image) 741) (rangesKeep scale delay installed) (anyIndexFits (length index))) k .0
 
   -- each number is answered exactly when its condition holds and no lower number's does
-  pub number-5 : (number ≡ 5) ↔ (length image ≡ 509 → ⊥)
+  pub number-5 : (number ≡ 5) ↔ (length image ≡ 741 → ⊥)
   number-5 = (
-    λ e. eqb-false (length image) 509 (led 0 e),
+    λ e. eqb-false (length image) 741 (led 0 e),
     λ h. ap numberOf (says-bad-length image index scale delay installed h),
   )
 
-  pub number-6 : (number ≡ 6) ↔ ((length image ≡ 509) × (rangesKeep scale delay installed ≡ false))
+  pub number-6 : (number ≡ 6) ↔ ((length image ≡ 741) × (rangesKeep scale delay installed ≡ false))
   number-6 = (
     λ e.
         let t = led 1 e in
-        (eqb-true (length image) 509 (t .0), t .1),
+        (eqb-true (length image) 741 (t .0), t .1),
     λ h. ap numberOf (says-bad-range image index scale delay installed (h .0) (h .1)),
   )
 
-  pub number-10 : (number ≡ 10) ↔ ((length image ≡ 509) × (rangesKeep scale delay installed ≡ true) × (anyIndexFits (length index) ≡ false))
+  pub number-10 : (number ≡ 10) ↔ ((length image ≡ 741) × (rangesKeep scale delay installed ≡ true) × (anyIndexFits (length index) ≡ false))
   number-10 = (
     λ e.
         let t = led 2 e in
-        (eqb-true (length image) 509 (t .0), t .1 .0, t .1 .1),
+        (eqb-true (length image) 741 (t .0), t .1 .0, t .1 .1),
     λ h. ap numberOf (says-bad-index image index scale delay installed (h .0) (h .1) (h .2)),
   )
 
-  pub number-0 : (number ≡ 0) ↔ ((length image ≡ 509) × (rangesKeep scale delay installed ≡ true) × (anyIndexFits (length index) ≡ true))
+  pub number-0 : (number ≡ 0) ↔ ((length image ≡ 741) × (rangesKeep scale delay installed ≡ true) × (anyIndexFits (length index) ≡ true))
   number-0 = (
     λ e.
         let t = led 3 e in
-        (eqb-true (length image) 509 (t .0), t .1 .0, t .1 .1 .0),
+        (eqb-true (length image) 741 (t .0), t .1 .0, t .1 .1 .0),
     λ h. ap numberOf (says-done image index scale delay installed (h .0) (h .1) (h .2)),
   )
 
@@ -100,7 +100,7 @@ module _ (image index : List ℕ) (scale delay installed : ℕ) where
 
   -- done or refused, a reset reports no steps and no reason
   pub no-steps : (stepsOf answer ≡ 0) × (reasonOf answer ≡ 0)
-  no-steps = by (eqb (length image) 509) (rangesKeep scale delay installed) (anyIndexFits (length index))
+  no-steps = by (eqb (length image) 741) (rangesKeep scale delay installed) (anyIndexFits (length index))
     where
       by : (x y z : Bool) → (stepsOf (byTests x y z) ≡ 0) × (reasonOf (byTests x y z) ≡ 0)
       by true true true = (refl, refl)

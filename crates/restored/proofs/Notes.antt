@@ -23,7 +23,7 @@ use Rattle.restored.proofs.Papers.{eight-bytes, bytes-small}
 use Rattle.restored.proofs.Saves.{SavedGood, saves}
 use Rattle.restored.proofs.Undoes.{within, undo-step}
 
-pub note-long : (distance : ℕ) (roms : Roms) (w : World) → Good w → length (recordBytes (noteOf distance roms w)) ≡ 256
+pub note-long : (distance : ℕ) (roms : Roms) (w : World) → Good w → length (recordBytes (noteOf distance roms w)) ≡ 512
 unfolding noteOf
 note-long distance roms w good = length-bytes (noteOf distance roms w) (good .typed .sized .printers)
 

@@ -1,5 +1,5 @@
--- Document 01, "The state image", paragraph "Rules", rule by rule in its order, and what request L2 adds.
-use Prim.Native.Nat.{ℕ, _+_, _/_, _%_, _^_}
+-- Document 01, "The state image", paragraph "Rules", rule by rule in its order, and what requests L2 and L4 add.
+use Prim.Native.Nat.{ℕ, _+_, _*_, _/_, _%_, _^_}
 use mathlib.Core.Bool.{Bool, not, _&&_, _||_, Bool·beq}
 use mathlib.Core.List.{List}
 use lib.Dec.{leb, ltb, eqb}
@@ -19,11 +19,19 @@ use Rattle.tlb.specs.Entry.{noRow}
 use Rattle.printer.specs.Rules.{lineKeeps}
 use Rattle.state.specs.declared.machine.Machine.{Machine}
 use Rattle.state.specs.declared.machine.Journal.{Journal}
-use Rattle.state.specs.Layout.{bodyLength, imageLength, imageVersion, machineOf}
+use Rattle.state.specs.Layout.{diskWords, disksBase, bodyLength, imageLength, imageVersion, machineOf}
 
--- the length word and the version: document 02, L2, makes version 2 of them
+-- the length word and the version: document 02 makes version 3 of them
 abbrev pub headerKeeps : List ℕ → Bool
 headerKeeps image = eqb (wordAt image 0) bodyLength && eqb (getD image 4 0) imageVersion
+
+-- document 02, L4: the disks' words. None is installed yet, and "an uninstalled one is all 0".
+abbrev pub disksKeep : List ℕ → Bool
+disksKeep image = every (4 * diskWords) (λ (k : ℕ). eqb (getD image (5 + 4 * disksBase + k) 0) 0)
+
+-- what the bytes say of themselves
+abbrev pub bytesKeep : List ℕ → Bool
+bytesKeep image = headerKeeps image && disksKeep image
 
 -- IP[k]
 abbrev pub ip : ℕ → ℕ → Bool
@@ -63,7 +71,7 @@ rangesKeep scale delay installed = between 1 255 scale && between 1 65535 delay 
 abbrev pub slotKeeps : ℕ → ℕ → Bool
 slotKeeps slot branch = eqb slot 0 && eqb branch 0 || eqb slot 1
 
--- "on hand at most journal length / 256; next slot below that number, or 0 if it is 0"
+-- "on hand at most journal length / 256; next slot below that number, or 0 if it is 0"; document 02, L4: "01's row 4 and its on-hand rule read 512"
 abbrev pub journalKeeps : Journal → ℕ → Bool
 journalKeeps j slots = leb (j .«on_hand») slots && (ltb (j .«next_slot») slots || eqb slots 0 && eqb (j .«next_slot») 0)
 
@@ -80,7 +88,7 @@ machineKeeps m paper journal = stateKeeps m paper && journalKeeps (m .journal) (
 
 -- every rule, of an image of the right length
 unfoldable pub keepsRules : List ℕ → ℕ → ℕ → Bool
-keepsRules image paper journal = headerKeeps image && machineKeeps (machineOf image) paper journal
+keepsRules image paper journal = bytesKeep image && machineKeeps (machineOf image) paper journal
 
 -- an image that refusal 5 does not meet: another length, or it "breaks a rule below"
 abbrev pub goodImage : List ℕ → ℕ → ℕ → Bool

@@ -2,7 +2,7 @@
 ghost use mathlib.Core.Path.{_≡_};
 ghost use lib.ListN.{length};
 ghost use Rattle.state.specs.Layout.{machineOf};
-ghost use Rattle.rules.specs.Rules.{headerKeeps, causeKeeps, randomKeeps, entryKeeps, cp0Keeps, tlbKeeps, rangesKeep, journalKeeps, slotKeeps, stateKeeps, machineKeeps, keepsRules};
+ghost use Rattle.rules.specs.Rules.{headerKeeps, disksKeep, bytesKeep, causeKeeps, randomKeeps, entryKeeps, cp0Keeps, tlbKeeps, rangesKeep, journalKeeps, slotKeeps, stateKeeps, machineKeeps, keepsRules};
 use cp0::registers::Cp0;
 use printer::rules::line_keeps;
 use state::decode::decode;
@@ -30,25 +30,43 @@ pub struct Verdict {
 }
 
 pub fn judged(image: &[u8], paper: usize, journal: usize) -> Verdict
-    requires { ⌜ length (now image) ≡ 509 ⌝ }
+    requires { ⌜ length (now image) ≡ 741 ⌝ }
     ensures { λ r. ⌜ r ≡ record { keeps = keepsRules (now (image .entry)) paper journal; machine = machineOf (now (image .entry)) } ⌝ }
 {
     let machine = decode(image);
-    let keeps = header_keeps(image) & machine_keeps(machine, paper, journal);
+    let keeps = bytes_keep(image) & machine_keeps(machine, paper, journal);
     Verdict { keeps, machine }
 }
 
+fn bytes_keep(image: &[u8]) -> bool
+    requires { ⌜ length (now image) ≡ 741 ⌝ }
+    ensures { λ r. ⌜ r ≡ bytesKeep (now (image .entry)) ⌝ }
+{
+    header_keeps(image) & disks_keep(image)
+}
+
 fn header_keeps(image: &[u8]) -> bool
-    requires { ⌜ length (now image) ≡ 509 ⌝ }
+    requires { ⌜ length (now image) ≡ 741 ⌝ }
     ensures { λ r. ⌜ r ≡ headerKeeps (now (image .entry)) ⌝ }
 {
-    (word_at(image, 0) == 505) & (image[4] == 2)
+    (word_at(image, 0) == 737) & (image[4] == 3)
+}
+
+fn disks_keep(image: &[u8]) -> bool
+    requires { ⌜ length (now image) ≡ 741 ⌝ }
+    ensures { λ r. ⌜ r ≡ disksKeep (now (image .entry)) ⌝ }
+{
+    let mut ok = true;
+    for k in 0..232 {
+        ok = ok & (image[509 + k] == 0);
+    }
+    ok
 }
 
 pub fn machine_keeps(m: Machine, paper: usize, journal: usize) -> bool
     ensures { λ r. ⌜ r ≡ machineKeeps m paper journal ⌝ }
 {
-    state_keeps(m, paper) & journal_keeps(m.journal, journal / 256)
+    state_keeps(m, paper) & journal_keeps(m.journal, journal / 512)
 }
 
 // Every rule but the journal's: take-back judges an image that has no journal words yet.
@@ -126,7 +144,8 @@ pub fn ranges_keep(scale: u64, delay: u64, installed: u64) -> bool
     ((1 <= scale) & (scale <= 255)) & ((1 <= delay) & (delay <= 65535)) & (installed <= 255)
 }
 
-fn journal_keeps(j: Journal, slots: usize) -> bool
+// Of so many slots: an image of the version before has others.
+pub fn journal_keeps(j: Journal, slots: usize) -> bool
     ensures { λ r. ⌜ r ≡ journalKeeps j slots ⌝ }
 {
     (j.on_hand as usize <= slots)

@@ -40,7 +40,7 @@ still-whole long w =
     }
 
 -- a record is as long as a slot
-note-long : (distance : ℕ) (roms : Roms) (w : World) → length (w .board .line .printers) ≡ 8 → length (recordBytes (noteOf distance roms w)) ≡ 256
+note-long : (distance : ℕ) (roms : Roms) (w : World) → length (w .board .line .printers) ≡ 8 → length (recordBytes (noteOf distance roms w)) ≡ 512
 unfolding noteOf
 note-long distance roms w eight = length-bytes (noteOf distance roms w) eight
 
@@ -74,12 +74,12 @@ module _ (n budget : ℕ) (stop : Bool) {settings : Settings} {p p′ : Parts} {
   -- the journal is ready for the next turn
   pub ready : length (b′ .journal) ≡ length (b .journal) → Ready (b .journal) (p .mark) → Ready (b′ .journal) (p′ .mark)
   ready long was =
-      let same : slotsOf (b′ .journal) ≡ slotsOf (b .journal) = ap (λ (k : ℕ). k / 256) long in
+      let same : slotsOf (b′ .journal) ≡ slotsOf (b .journal) = ap (λ (k : ℕ). k / 512) long in
       record {
         few = rw long (was .few);
         sound =
             rw (same, turned .ring-is)
-            (sound-written 256 (slotsOf (b .journal)) (recordBytes (noteOf (distance (slotsOf (b .journal))) roms before)) (ringOf (p .mark) (b .journal))
+            (sound-written 512 (slotsOf (b .journal)) (recordBytes (noteOf (distance (slotsOf (b .journal))) roms before)) (ringOf (p .mark) (b .journal))
             (note-long (distance (slotsOf (b .journal))) roms before (length-printers (p .words))) (was .sound));
       }
 
@@ -90,8 +90,8 @@ module _ (n budget : ℕ) (stop : Bool) {settings : Settings} {p p′ : Parts} {
     side-is : there rows .side ≡ onwardOf (ahead roms) n (here .ring) before (b .index)
     side-is = turned .index-is ∙ ap (λ (k : ℕ). onwardOf (ahead roms) k (here .ring) before (b .index)) same
 
-    ring-is : there rows .ring ≡ written 256 n (recordBytes (noteOf (distance n) roms before)) (ringOf (p .mark) (b .journal))
-    ring-is = turned .ring-is ∙ ap (λ (k : ℕ). written 256 k (recordBytes (noteOf (distance k) roms before)) (ringOf (p .mark) (b .journal))) same
+    ring-is : there rows .ring ≡ written 512 n (recordBytes (noteOf (distance n) roms before)) (ringOf (p .mark) (b .journal))
+    ring-is = turned .ring-is ∙ ap (λ (k : ℕ). written 512 k (recordBytes (noteOf (distance k) roms before)) (ringOf (p .mark) (b .journal))) same
 
     advances : there rows ≡ advance F n here
     unfolding advance

@@ -21,11 +21,11 @@ fits journal hand next e =
 
 -- the part that is lent at the slot x
 module _ (journal : List ℕ) (next k x : ℕ) (at : x ≡ slotBack (slotsOf journal) next k) where
-  pub kth-part : take (256 * x + 256 - 256 * x) (drop (256 * x) journal) ≡ kthOf journal next k
-  kth-part = slot-part 256 journal x ∙ ap (slot 256 journal) at
+  pub kth-part : take (512 * x + 512 - 512 * x) (drop (512 * x) journal) ≡ kthOf journal next k
+  kth-part = slot-part 512 journal x ∙ ap (slot 512 journal) at
 
-  pub kth-long : x < slotsOf journal → length (take (256 * x + 256 - 256 * x) (drop (256 * x) journal)) ≡ 256
-  kth-long within = ap length (slot-part 256 journal x) ∙ length-slot 256 (slotsOf journal) journal (omega arith) x within
+  pub kth-long : x < slotsOf journal → length (take (512 * x + 512 - 512 * x) (drop (512 * x) journal)) ≡ 512
+  kth-long within = ap length (slot-part 512 journal x) ∙ length-slot 512 (slotsOf journal) journal (omega arith) x within
 
 -- an element of a mapped list, whatever stands past its end
 map-at : {A B : Type 0} (f : A → B) (l : List A) (k : ℕ) (d : B) (e : A) → k < length l → getD (map f l) k d ≡ f (getD l k e)
@@ -38,9 +38,9 @@ module _ {A : Type 0} (f : List ℕ → A) (journal : List ℕ) (hand next : ℕ
   ring = record { bytes = journal; hand = hand; next = next }
 
   pub held-long : length (map f (heldOf journal hand next)) ≡ hand
-  held-long = length-map (heldOf journal hand next) f ∙ records-length 256 (slotsOf journal) ring
+  held-long = length-map (heldOf journal hand next) f ∙ records-length 512 (slotsOf journal) ring
 
   pub held-at : (i : ℕ) (d : A) → i < hand → getD (map f (heldOf journal hand next)) i d ≡ f (kthOf journal next (suc i))
   held-at i d h =
-      map-at f (heldOf journal hand next) i d [] (omega (arith, records-length 256 (slotsOf journal) ring))
-      ∙ ap f (record-at 256 (slotsOf journal) ring i h)
+      map-at f (heldOf journal hand next) i d [] (omega (arith, records-length 512 (slotsOf journal) ring))
+      ∙ ap f (record-at 512 (slotsOf journal) ring i h)

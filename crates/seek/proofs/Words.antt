@@ -29,22 +29,22 @@ module _ (place word : ℕ) where
 
   module _ (slot : List ℕ) where
     saved-is : wordBefore place (writesOf slot) word
-        ≡ wordBefore place (writesIn (savedAt (slotWord slot 19) (slotWord slot 20) (slotWord slot 21) (slotWord slot 22))) word
+        ≡ wordBefore place (writesIn (savedAt (slotWord slot 59) (slotWord slot 60) (slotWord slot 61) (slotWord slot 62))) word
     unfolding recordOf recordAt
     saved-is = refl
 
-    pub other-kind : slotWord slot 19 ≢ 3 → wordBefore place (writesOf slot) word ≡ word
-    other-kind other = saved-is ∙ no-ram (slotWord slot 19) (slotWord slot 20) (slotWord slot 21) (slotWord slot 22) other
+    pub other-kind : slotWord slot 59 ≢ 3 → wordBefore place (writesOf slot) word ≡ word
+    other-kind other = saved-is ∙ no-ram (slotWord slot 59) (slotWord slot 60) (slotWord slot 61) (slotWord slot 62) other
 
-    module _ (is : slotWord slot 19 ≡ 3) where
-      kind-three : wordBefore place (writesOf slot) word ≡ cond (eqb (slotWord slot 20) place) (slotWord slot 21) word
-      kind-three = saved-is ∙ ram-word (slotWord slot 19) (slotWord slot 20) (slotWord slot 21) (slotWord slot 22) is
+    module _ (is : slotWord slot 59 ≡ 3) where
+      kind-three : wordBefore place (writesOf slot) word ≡ cond (eqb (slotWord slot 60) place) (slotWord slot 61) word
+      kind-three = saved-is ∙ ram-word (slotWord slot 59) (slotWord slot 60) (slotWord slot 61) (slotWord slot 62) is
 
-      pub other-place : slotWord slot 20 ≢ place → wordBefore place (writesOf slot) word ≡ word
-      other-place other = kind-three ∙ rw (ne-eqb (slotWord slot 20) place other)
+      pub other-place : slotWord slot 60 ≢ place → wordBefore place (writesOf slot) word ≡ word
+      other-place other = kind-three ∙ rw (ne-eqb (slotWord slot 60) place other)
 
-      pub same-place : slotWord slot 20 ≡ place → wordBefore place (writesOf slot) word ≡ slotWord slot 21
-      same-place same = kind-three ∙ rw (eq-eqb (slotWord slot 20) place same)
+      pub same-place : slotWord slot 60 ≡ place → wordBefore place (writesOf slot) word ≡ slotWord slot 61
+      same-place same = kind-three ∙ rw (eq-eqb (slotWord slot 60) place same)
 
 pub pc-is : (slot : List ℕ) → pcOf slot ≡ slotWord slot 2
 unfolding recordOf recordAt

@@ -44,7 +44,7 @@ fn has_word(ram: &[u8], place: u32) -> bool
 // The record of the `k`-th newest step.
 fn record_at(journal: &[u8], next: u32, k: u32) -> &[u8]
     requires { ⌜ Fits (now journal) k next ⌝ }
-    ensures { λ r. ⌜ (now r ≡ kthOf (now (journal .entry)) next k) × (length (now r) ≡ 256) ⌝ }
+    ensures { λ r. ⌜ (now r ≡ kthOf (now (journal .entry)) next k) × (length (now r) ≡ 512) ⌝ }
 {
     let at = SLOT * ring::slot_back(journal.len() / SLOT, next as usize, k as usize);
     let end = at + SLOT;
@@ -53,7 +53,7 @@ fn record_at(journal: &[u8], next: u32, k: u32) -> &[u8]
 
 // The word at `place` before the step of a record, from the word after it.
 fn word_before(slot: &[u8], place: u32, after: u32) -> u32
-    requires { ⌜ length (now slot) ≡ 256 ⌝ }
+    requires { ⌜ length (now slot) ≡ 512 ⌝ }
     ensures { λ r. ⌜ r ≡ wordBefore place (writesOf (now (slot .entry))) after ⌝ }
 {
     if word(slot, KIND) != RAM {

@@ -3,27 +3,27 @@ use Prim.Native.Nat.{ℕ, suc, _+_, _*_, _^_}
 use mathlib.Core.Path.{_≡_, refl, sym, ap, subst, _∙_}
 use mathlib.Core.List.{List, [], _∷_, _++_}
 use native.Mathlib.Omega.{arith}
-use lib.ListN.{length, getD, take, drop, length-drop, take-append-drop}
-use lib.Seq.{take-all, getD-drop}
+use lib.ListN.{length, getD, take, drop, replicate, length-drop, take-append-drop}
+use lib.Seq.{drop-drop, getD-drop}
 use Rattle.word.specs.Lists.{tabulate, flat, Below}
 use Rattle.word.specs.Big.{wordBytes}
-use Rattle.word.proofs.Lists.{getD-tabulate, tabulate-getD, tabulate-ext}
+use Rattle.word.proofs.Lists.{getD-tabulate, tabulate-getD, tabulate-ext, flat-append, below-append, below-numerals}
 use Rattle.word.proofs.BigWords.{read-written, write-read, word-small}
 use Rattle.state.specs.declared.machine.Machine.{Machine}
 use Rattle.tlb.specs.declared.Row.{Row}
 use Rattle.tlb.specs.Entry.{noRow}
 use Rattle.printer.specs.declared.Printer.{Printer}
 use Rattle.printer.specs.Tick.{noPrinter}
-use Rattle.state.specs.Layout.{wordsOf, header, bytesOf, bodyWord, machineAt, machineOf, Sized, HoldsZero, WellTyped}
+use Rattle.state.specs.Layout.{noDisks, wordsOf, header, bytesOf, bodyWord, machineAt, machineOf, Sized, HoldsZero, WellTyped}
 use Rattle.state.proofs.Stored.{length-words}
 
--- the layout's words are the words in their order
-in-order : (f : ℕ → ℕ) → wordsOf (machineAt f) ≡ tabulate 126 f
+-- the layout's words are the words in their order, and 0 for the disks
+in-order : (f : ℕ → ℕ) → wordsOf (machineAt f) ≡ tabulate 126 f ++ noDisks
 unfolding wordsOf machineAt
 in-order f = refl
 
--- only the first 126 words are read
-read-from-list : (f : ℕ → ℕ) → machineAt f ≡ machineAt (λ (k : ℕ). getD (tabulate 126 f) k 0)
+-- only the image's words are read
+read-from-list : (f : ℕ → ℕ) → machineAt f ≡ machineAt (λ (k : ℕ). getD (tabulate 184 f) k 0)
 unfolding machineAt
 read-from-list f = refl
 
@@ -81,19 +81,23 @@ unfolding bytesOf machineOf
 decode-encode m t =
     let ws = wordsOf m in
     let f = bodyWord (flat wordBytes ws) in
-    let words : tabulate 126 f ≡ ws =
-    tabulate-ext 126 f (λ (k : ℕ). getD ws k 0) (λ k h. read-written ws k (omega (arith, length-words m (t .sized))) (t .small k (omega (arith, length-words m (t .sized)))))
+    let words : tabulate 184 f ≡ ws =
+    tabulate-ext 184 f (λ (k : ℕ). getD ws k 0) (λ k h. read-written ws k (omega (arith, length-words m (t .sized))) (t .small k (omega (arith, length-words m (t .sized)))))
     ∙ (rw (length-words m (t .sized)) at (tabulate-getD ws 0)) in
     read-from-list f ∙ ap (λ (l : List ℕ). machineAt (λ (k : ℕ). getD l k 0)) words ∙ read-whole m (t .sized) (t .zero)
 
--- What was decoded is encoded to the same bytes.
-pub encode-decode : (b : List ℕ) → length b ≡ 509 → take 5 b ≡ header → Below 256 b → bytesOf (machineOf b) ≡ b
+-- What was decoded is encoded to the same bytes, where the words of the disks are 0.
+pub encode-decode : (b : List ℕ) → length b ≡ 741 → take 5 b ≡ header → drop 509 b ≡ replicate 232 0 → Below 256 b → bytesOf (machineOf b) ≡ b
 unfolding bytesOf machineOf
-encode-decode b l h small =
+encode-decode b l h none small =
     let body = drop 5 b in
-    let long : length body ≡ 504 = simp length-drop (omega arith) in
-    let written : flat wordBytes (tabulate 126 (bodyWord body)) ≡ body =
-    write-read 126 body (omega arith) (part-below 5 b small) ∙ take-all 504 body (omega arith) in
+    let long : length body ≡ 736 = simp length-drop (omega arith) in
+    let read : flat wordBytes (tabulate 126 (bodyWord body)) ≡ take 504 body = write-read 126 body (omega arith) (part-below 5 b small) in
+    let zeros : flat wordBytes noDisks ≡ drop 504 body = sym none ∙ sym (drop-drop 504 5 b) in
+    let written : flat wordBytes (tabulate 126 (bodyWord body) ++ noDisks) ≡ body =
+    flat-append wordBytes (tabulate 126 (bodyWord body)) noDisks
+    ∙ (λ i. read i ++ zeros i)
+    ∙ take-append-drop 504 body in
     ap (λ (ws : List ℕ). header ++ flat wordBytes ws) (in-order (bodyWord body))
     ∙ ap (λ (l : List ℕ). header ++ l) written ∙ ap (λ (l : List ℕ). l ++ body) (sym h) ∙ take-append-drop 5 b
 
@@ -103,7 +107,7 @@ unfolding machineOf machineAt
 decoded-zero b = refl
 
 -- What is decoded is well typed, so that it can be encoded again.
-pub decoded-typed : (b : List ℕ) → length b ≡ 509 → Below 256 b → WellTyped (machineOf b)
+pub decoded-typed : (b : List ℕ) → length b ≡ 741 → Below 256 b → WellTyped (machineOf b)
 unfolding machineOf machineAt
 decoded-typed b l small =
     let body = drop 5 b in
@@ -111,4 +115,5 @@ decoded-typed b l small =
     let bytes : Below 256 body = part-below 5 b small in
     let words : Below (2 ^ 32) (tabulate 126 f) =
     λ i h. rw (getD-tabulate 126 f i 0 h) (word-small body (4 * i) bytes) in
-    record { sized = record { regs = refl; tlb = refl; printers = refl }; zero = decoded-zero b; small = subst (Below (2 ^ 32)) (sym (in-order f)) words }
+    let all : Below (2 ^ 32) (tabulate 126 f ++ noDisks) = below-append (tabulate 126 f) noDisks words (below-numerals noDisks refl) in
+    record { sized = record { regs = refl; tlb = refl; printers = refl }; zero = decoded-zero b; small = subst (Below (2 ^ 32)) (sym (in-order f)) all }

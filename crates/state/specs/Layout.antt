@@ -1,9 +1,9 @@
--- The layout of the state image, version 2: document 01's, and what request L2 adds. `wordsOf` is the paragraph "The state image"; `machineAt` reads it back, and
+-- The layout of the state image, version 3: document 01's, and what requests L2 and L4 add. `wordsOf` is the paragraph "The state image"; `machineAt` reads it back, and
 -- proofs/RoundTrip.antt shows that the two agree.
 use Prim.Native.Nat.{ℕ, _+_, _*_, _^_}
 use mathlib.Core.List.{List, [], _∷_, _++_}
 use mathlib.Core.Path.{_≡_}
-use lib.ListN.{length, getD, drop}
+use lib.ListN.{length, getD, drop, replicate}
 use Rattle.word.specs.Lists.{tabulate, flat, joined, Below}
 use Rattle.word.specs.Sizes.{tableSize, devices}
 use Rattle.word.specs.Big.{wordBytes, wordAt}
@@ -102,6 +102,13 @@ journalWords j = j .«on_hand» ∷ j .«next_slot» ∷ []
 abbrev pub journalFrom : ℕ → (ℕ → ℕ) → Journal
 journalFrom base word = record { «on_hand» = word base; «next_slot» = word (base + 1) }
 
+-- the disks' installed map, seven words a disk, and their pending map
+abbrev pub diskWords : ℕ
+diskWords = 1 + 7 * devices + 1
+
+abbrev pub noDisks : List ℕ
+noDisks = replicate diskWords 0
+
 -- ---- THE layout: groups of words, one after the other, so that a version adds a group
 
 abbrev pub groupsOf : Machine → List (List ℕ)
@@ -121,6 +128,8 @@ groupsOf m =
     ∷ journalWords (m .journal)
     -- document 02, L2: "The image gains a flag and the branch's address"
     ∷ slotWords (m .cpu .core)
+    -- document 02, L4: the disks, of which none is installed yet: "an uninstalled one is all 0"
+    ∷ noDisks
     ∷ []
 
 unfoldable pub wordsOf : Machine → List ℕ
@@ -151,24 +160,27 @@ journalBase = pendingBase + 1
 abbrev pub slotBase : ℕ
 slotBase = journalBase + 2
 
--- 126 words
+abbrev pub disksBase : ℕ
+disksBase = slotBase + 2
+
+-- 184 words
 abbrev pub imageWords : ℕ
-imageWords = slotBase + 2
+imageWords = disksBase + diskWords
 
 -- the bytes after the length word, of an image of so many words: the version byte and the words
 abbrev pub bodyOf : ℕ → ℕ
 bodyOf words = 1 + 4 * words
 
--- the length word: 505
+-- the length word: 737
 abbrev pub bodyLength : ℕ
 bodyLength = bodyOf imageWords
 
--- 509 bytes
+-- 741 bytes
 abbrev pub imageLength : ℕ
 imageLength = 4 + bodyLength
 
 abbrev pub imageVersion : ℕ
-imageVersion = 2
+imageVersion = 3
 
 -- "a length word .., a version byte"
 abbrev pub header : List ℕ

@@ -1,4 +1,4 @@
-// From bytes to a machine. `body` is the 504 bytes after the length word and the version.
+// From bytes to a machine. `body` is the 736 bytes after the length word and the version.
 ghost use mathlib.Core.Path.{_≡_};
 ghost use Prim.Native.Nat.{_+_, _<_};
 ghost use lib.ListN.{length};
@@ -18,15 +18,15 @@ use printer::Printer;
 use tlb::Row;
 
 fn word(body: &[u8], k: usize) -> u32
-    requires { ⌜ length (now body) ≡ 504 ⌝ }
-    requires { ⌜ k < 126 ⌝ }
+    requires { ⌜ length (now body) ≡ 736 ⌝ }
+    requires { ⌜ k < 184 ⌝ }
     ensures { λ r. ⌜ r ≡ bodyWord (now (body .entry)) k ⌝ }
 {
     word::big::word_at(body, 4 * k)
 }
 
 fn registers(body: &[u8]) -> [u32; 32]
-    requires { ⌜ length (now body) ≡ 504 ⌝ }
+    requires { ⌜ length (now body) ≡ 736 ⌝ }
     ensures { λ r. ⌜ r ≡ 0 ∷ tabulate 31 (bodyWord (now (body .entry))) ⌝ }
 {
     let mut regs = [0u32; 32];
@@ -35,7 +35,7 @@ fn registers(body: &[u8]) -> [u32; 32]
 }
 
 fn cp0(body: &[u8]) -> Cp0
-    requires { ⌜ length (now body) ≡ 504 ⌝ }
+    requires { ⌜ length (now body) ≡ 736 ⌝ }
     ensures { λ r. ⌜ r ≡ cp0From (coreBase + 4) (bodyWord (now (body .entry))) ⌝ }
 {
     Cp0 {
@@ -51,7 +51,7 @@ fn cp0(body: &[u8]) -> Cp0
 }
 
 fn core(body: &[u8]) -> Core
-    requires { ⌜ length (now body) ≡ 504 ⌝ }
+    requires { ⌜ length (now body) ≡ 736 ⌝ }
     ensures { λ r. ⌜ r ≡ coreFrom coreBase slotBase (bodyWord (now (body .entry))) ⌝ }
 {
     Core {
@@ -66,7 +66,7 @@ fn core(body: &[u8]) -> Core
 }
 
 fn row(body: &[u8], i: usize) -> Row
-    requires { ⌜ length (now body) ≡ 504 ⌝ }
+    requires { ⌜ length (now body) ≡ 736 ⌝ }
     requires { ⌜ i < 16 ⌝ }
     ensures { λ r. ⌜ r ≡ rowAt (bodyWord (now (body .entry))) i ⌝ }
 {
@@ -78,7 +78,7 @@ fn row(body: &[u8], i: usize) -> Row
 }
 
 fn tlb(body: &[u8]) -> [Row; 16]
-    requires { ⌜ length (now body) ≡ 504 ⌝ }
+    requires { ⌜ length (now body) ≡ 736 ⌝ }
     ensures { λ r. ⌜ r ≡ tabulate 16 (rowAt (bodyWord (now (body .entry)))) ⌝ }
 {
     let empty = Row { high: 0, low: 0 };
@@ -90,7 +90,7 @@ fn tlb(body: &[u8]) -> [Row; 16]
 }
 
 fn cpu(body: &[u8]) -> Cpu
-    requires { ⌜ length (now body) ≡ 504 ⌝ }
+    requires { ⌜ length (now body) ≡ 736 ⌝ }
     ensures { λ r. ⌜ r ≡ cpuAt (bodyWord (now (body .entry))) ⌝ }
 {
     let regs = registers(body);
@@ -100,7 +100,7 @@ fn cpu(body: &[u8]) -> Cpu
 }
 
 fn clock(body: &[u8]) -> Clock
-    requires { ⌜ length (now body) ≡ 504 ⌝ }
+    requires { ⌜ length (now body) ≡ 736 ⌝ }
     ensures { λ r. ⌜ r ≡ clockFrom clockBase (bodyWord (now (body .entry))) ⌝ }
 {
     Clock {
@@ -111,7 +111,7 @@ fn clock(body: &[u8]) -> Clock
 }
 
 fn settings(body: &[u8]) -> Settings
-    requires { ⌜ length (now body) ≡ 504 ⌝ }
+    requires { ⌜ length (now body) ≡ 736 ⌝ }
     ensures { λ r. ⌜ r ≡ settingsFrom settingsBase (bodyWord (now (body .entry))) ⌝ }
 {
     Settings {
@@ -122,7 +122,7 @@ fn settings(body: &[u8]) -> Settings
 }
 
 fn printer(body: &[u8], i: usize) -> Printer
-    requires { ⌜ length (now body) ≡ 504 ⌝ }
+    requires { ⌜ length (now body) ≡ 736 ⌝ }
     requires { ⌜ i < 8 ⌝ }
     ensures { λ r. ⌜ r ≡ printerAt (bodyWord (now (body .entry))) i ⌝ }
 {
@@ -137,7 +137,7 @@ fn printer(body: &[u8], i: usize) -> Printer
 }
 
 fn printers(body: &[u8]) -> [Printer; 8]
-    requires { ⌜ length (now body) ≡ 504 ⌝ }
+    requires { ⌜ length (now body) ≡ 736 ⌝ }
     ensures { λ r. ⌜ r ≡ tabulate 8 (printerAt (bodyWord (now (body .entry)))) ⌝ }
 {
     let absent = Printer {
@@ -155,7 +155,7 @@ fn printers(body: &[u8]) -> [Printer; 8]
 }
 
 fn line(body: &[u8]) -> Line
-    requires { ⌜ length (now body) ≡ 504 ⌝ }
+    requires { ⌜ length (now body) ≡ 736 ⌝ }
     ensures { λ r. ⌜ r ≡ lineAt (bodyWord (now (body .entry))) ⌝ }
 {
     let printers = printers(body);
@@ -164,7 +164,7 @@ fn line(body: &[u8]) -> Line
 }
 
 fn board(body: &[u8]) -> Board
-    requires { ⌜ length (now body) ≡ 504 ⌝ }
+    requires { ⌜ length (now body) ≡ 736 ⌝ }
     ensures { λ r. ⌜ r ≡ boardAt (bodyWord (now (body .entry))) ⌝ }
 {
     let clock = clock(body);
@@ -178,7 +178,7 @@ fn board(body: &[u8]) -> Board
 }
 
 fn journal(body: &[u8]) -> Journal
-    requires { ⌜ length (now body) ≡ 504 ⌝ }
+    requires { ⌜ length (now body) ≡ 736 ⌝ }
     ensures { λ r. ⌜ r ≡ journalFrom journalBase (bodyWord (now (body .entry))) ⌝ }
 {
     Journal {
@@ -188,7 +188,7 @@ fn journal(body: &[u8]) -> Journal
 }
 
 fn machine(body: &[u8]) -> Machine
-    requires { ⌜ length (now body) ≡ 504 ⌝ }
+    requires { ⌜ length (now body) ≡ 736 ⌝ }
     ensures { λ r. ⌜ r ≡ machineAt (bodyWord (now (body .entry))) ⌝ }
 {
     let cpu = cpu(body);
@@ -203,7 +203,7 @@ fn machine(body: &[u8]) -> Machine
 
 // The machine that an image of the right length holds.
 pub fn decode(image: &[u8]) -> Machine
-    requires { ⌜ length (now image) ≡ 509 ⌝ }
+    requires { ⌜ length (now image) ≡ 741 ⌝ }
     ensures { λ r. ⌜ r ≡ machineOf (now (image .entry)) ⌝ }
 {
     machine(&image[5..])

@@ -5,7 +5,7 @@ ghost use lib.ListN.{length, drop};
 ghost use lib.Seq.{sets};
 ghost use Rattle.word.specs.Lists.{flat};
 ghost use Rattle.word.specs.Big.{wordBytes};
-ghost use Rattle.state.specs.Layout.{header, coreWords, rowWords, clockWords, settingsWords, printerWords, journalWords, slotWords, bytesOf};
+ghost use Rattle.state.specs.Layout.{header, coreWords, rowWords, clockWords, settingsWords, printerWords, journalWords, slotWords, noDisks, bytesOf};
 use crate::machine::Core;
 use crate::machine::Journal;
 use crate::machine::Machine;
@@ -16,11 +16,11 @@ use tlb::Row;
 
 // The length word and the version.
 fn put_header(image: &mut [u8])
-    requires { ⌜ length (now image) ≡ 509 ⌝ }
+    requires { ⌜ length (now image) ≡ 741 ⌝ }
     ensures { λ _. ⌜ now (image .exit) ≡ sets (now (image .entry)) 0 header ⌝ }
 {
-    word::big::put_word(image, 0, 505);
-    image[4] = 2;
+    word::big::put_word(image, 0, 737);
+    image[4] = 3;
 }
 
 fn core_words(c: Core) -> [u32; 12]
@@ -84,7 +84,7 @@ pub fn printer_words(printers: [Printer; 8]) -> [u32; 40]
 
 // The header, and the words up to the translation table's.
 fn put_front(regs: [u32; 32], core: [u32; 12], rows: [u32; 32], image: &mut [u8])
-    requires { ⌜ length (now image) ≡ 509 ⌝ }
+    requires { ⌜ length (now image) ≡ 741 ⌝ }
     ensures { λ _. ⌜ now (image .exit) ≡ sets (now (image .entry)) 0 (header ++ flat wordBytes (drop 1 regs ++ (core ++ rows))) ⌝ }
 {
     put_header(image);
@@ -95,17 +95,19 @@ fn put_front(regs: [u32; 32], core: [u32; 12], rows: [u32; 32], image: &mut [u8]
 
 // The words from the clock on.
 fn put_back(clock: [u32; 6], printers: [u32; 40], last: [u32; 5], image: &mut [u8])
-    requires { ⌜ length (now image) ≡ 509 ⌝ }
-    ensures { λ _. ⌜ now (image .exit) ≡ sets (now (image .entry)) 305 (flat wordBytes (clock ++ (printers ++ last))) ⌝ }
+    requires { ⌜ length (now image) ≡ 741 ⌝ }
+    ensures { λ _. ⌜ now (image .exit) ≡ sets (now (image .entry)) 305 (flat wordBytes (clock ++ (printers ++ (last ++ noDisks)))) ⌝ }
 {
+    let none = [0u32; 58];
     word::big::put_words(&clock, image, 305);
     word::big::put_words(&printers, image, 329);
     word::big::put_words(&last, image, 489);
+    word::big::put_words(&none, image, 509);
 }
 
 // Lays a machine down in an image of the right length.
 pub fn encode(m: Machine, image: &mut [u8])
-    requires { ⌜ length (now image) ≡ 509 ⌝ }
+    requires { ⌜ length (now image) ≡ 741 ⌝ }
     ensures { λ _. ⌜ now (image .exit) ≡ bytesOf m ⌝ }
 {
     let cpu = m.cpu;

@@ -41,7 +41,7 @@ module _ (b : Buffers) (address room : ℕ) (number : lastWriteNumber b address 
   abbrev mark : Journal
   mark = machineOf (b .image) .journal
 
-  sound : Sound 256 (slotsOf journal) (ringOf mark journal)
+  sound : Sound 512 (slotsOf journal) (ringOf mark journal)
   sound = ring-sound journal mark (image-mark (b .image) (length (b .beside .paper)) (length journal) (number-0 b address room .0 number .1 .1 .1 .0))
 
   has : hasWord (b .beside .ram) (placeOf address) ≡ true

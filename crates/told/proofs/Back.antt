@@ -49,7 +49,7 @@ saved-small kind which first second small = go (eqb kind 1) (eqb kind 2) (eqb ki
 slot-small : (bytes : List ℕ) → length bytes ≡ 256 → Below 256 bytes → Small (recordOf bytes .saved)
 unfolding recordOf recordAt
 slot-small bytes long below =
-    saved-small (slotWord bytes 19) (slotWord bytes 20) (slotWord bytes 21) (slotWord bytes 22) (load-small 4 bytes 84 (omega arith) below)
+    saved-small (slotWord bytes 59) (slotWord bytes 60) (slotWord bytes 61) (slotWord bytes 62) (load-small 4 bytes 244 (omega arith) below)
 
 -- where the h newest are well formed, fewer are too
 fewer : (journal : List ℕ) (next : ℕ) (w : World) (h k : ℕ) → k ≤ h → allFit (back.both noRoms) (slotsOf journal) journal next h w ≡ true →
@@ -79,7 +79,7 @@ module _ (journal index : List ℕ) (hand next : ℕ) (w : World) where
   abbrev pub takenBack : ℕ → World
   takenBack k = takeBack (back.both noRoms) n k here .config .state
 
-  module _ (sound : Sound 256 n (here .ring)) (fit : allFit (back.both noRoms) n journal next hand w ≡ true) where
+  module _ (sound : Sound 512 n (here .ring)) (fit : allFit (back.both noRoms) n journal next hand w ≡ true) where
     fits : (i : ℕ) → i < hand → fitOf (kthOf journal next (suc i)) (viewOf (undoneTo i)) ≡ true
     fits i l =
         let M = back.both noRoms in
@@ -90,10 +90,10 @@ module _ (journal index : List ℕ) (hand next : ℕ) (w : World) where
     taken-is k l = sym (ap (λ t. t .config .state) (back-done (back.both noRoms) n here k l (fewer journal next w hand k l fit)))
 
     -- record i, as long as a slot
-    slot-long : (i : ℕ) → i < hand → length (kthOf journal next (suc i)) ≡ 256
+    slot-long : (i : ℕ) → i < hand → length (kthOf journal next (suc i)) ≡ 512
     slot-long i l =
         let some : next < n = omega (arith, sound .place, sound .most) in
-        length-slot 256 n journal (sound .room) (slotBack n next (suc i)) (back-below n next (suc i) some (omega (arith, sound .most)))
+        length-slot 512 n journal (sound .room) (slotBack n next (suc i)) (back-below n next (suc i) some (omega (arith, sound .most)))
 
     module _ (place : ℕ) (has : hasWord (w .ram) place ≡ true) (bytes : Below 256 journal) where
       slot-bytes : (i : ℕ) → i < hand → Below 256 (kthOf journal next (suc i))
@@ -102,7 +102,7 @@ module _ (journal index : List ℕ) (hand next : ℕ) (w : World) where
           let some : next < n = omega (arith, sound .place, sound .most) in
           let within = back-below n next (suc i) some (omega (arith, sound .most)) in
           subst (λ (x : ℕ). x < 256) (sym (slot-at 256 journal (slotBack n next (suc i)) j (omega arith)))
-          (bytes (256 * slotBack n next (suc i) + j) (omega (arith, sound .room)))
+          (bytes (512 * slotBack n next (suc i) + j) (omega (arith, sound .room)))
 
       says : (i : ℕ) → i < hand → wordAt (undoneTo (suc i)) place ≡ wordBefore place (writesOf (kthOf journal next (suc i))) (wordAt (undoneTo i) place)
       unfolding undone undoOf

@@ -41,7 +41,7 @@ module _ (b : Boot) (p : Booted b) (calls : List Call) where
   held : HoldsIn (slotsOf (h .buffers .beside .journal))
   held =
       let k = carried-all b p calls (resetTo b) (carried-start b p) .kept .holds in
-      subst HoldsIn (ap (λ (bytes : ℕ). bytes / 256) (sym (k .long))) k
+      subst HoldsIn (ap (λ (bytes : ℕ). bytes / 512) (sym (k .long))) k
 
   -- last_change, of a word that RAM has
   pub change-told : (place : ℕ) → hasWord (h .buffers .beside .ram) place ≡ true →

@@ -30,7 +30,7 @@ aligned ram place has = eqb-true (place % 4) 0 (both (eqb (place % 4) 0) (leb (p
 
 module _ (journal : List ℕ) (hand next : ℕ) where
   -- of a sound ring the records on hand are all there, also where there are none
-  pub sound-records : Sound 256 (slotsOf journal) (record { bytes = journal; hand = hand; next = next }) → recordsOf journal hand next ≡ heldOf journal hand next
+  pub sound-records : Sound 512 (slotsOf journal) (record { bytes = journal; hand = hand; next = next }) → recordsOf journal hand next ≡ heldOf journal hand next
   sound-records h =
       by-leb 1 (slotsOf journal)
       (λ some.
@@ -46,7 +46,7 @@ module _ (journal : List ℕ) (hand next : ℕ) where
       either true = refl
       either false = refl
 
-  module _ (sound : Sound 256 (slotsOf journal) (record { bytes = journal; hand = hand; next = next })) where
+  module _ (sound : Sound 512 (slotsOf journal) (record { bytes = journal; hand = hand; next = next })) where
     pub change-held : (ram : List ℕ) (place : ℕ) → hasWord ram place ≡ true →
         scan place (loadAt 4 ram place) 0 (map writesOf (heldOf journal hand next)) ≡ lastChangeOf ram journal hand next place
     unfolding lastChangeOf

@@ -113,10 +113,10 @@ decided-fits {lent} whole core regs t sixteen decided =
 -- the two parts of a record, put down one after the other, are the record in its slot
 pub ring-is : (mark : Journal) (journal : List ℕ) → Ready journal mark → (r : Record) (old : Saved) {begun : List ℕ} {left : Ring} {note : Record} →
     length (r .printers) ≡ 8 → begun ≡ begunOf mark r journal → left ≡ endedOf mark old begun → withSaved old r ≡ note →
-    left ≡ written 256 (slotsOf journal) (recordBytes note) (ringOf mark journal)
+    left ≡ written 512 (slotsOf journal) (recordBytes note) (ringOf mark journal)
 ring-is mark journal ready r old eight first last noted =
     last ∙ ap (endedOf mark old) first ∙ begun-ended mark r old journal eight ready
-    ∙ ap (λ (n : Record). written 256 (slotsOf journal) (recordBytes n) (ringOf mark journal)) noted
+    ∙ ap (λ (n : Record). written 512 (slotsOf journal) (recordBytes n) (ringOf mark journal)) noted
 
 pub still-ready : {mark : Journal} {journal : List ℕ} (r : Record) {begun : List ℕ} → Ready journal mark → length (r .printers) ≡ 8 → begun ≡ begunOf mark r journal → Ready begun mark
 still-ready {mark} {journal} r ready eight first = rw first (begun-ready mark r journal eight ready)
@@ -127,7 +127,7 @@ module _ (roms : Roms) (g g₁ : Ring) (w : World) (x : List ℕ) (clock : Clock
     (hand : g₁ .hand ≡ g .hand) where
   -- the next slot saves the same in both rings
   abbrev Saves : Type 0
-  Saves = recordOf (slot 256 (g₁ .bytes) (g₁ .next)) .saved ≡ recordOf (slot 256 (g .bytes) (g .next)) .saved
+  Saves = recordOf (slot 512 (g₁ .bytes) (g₁ .next)) .saved ≡ recordOf (slot 512 (g .bytes) (g .next)) .saved
 
   -- what is forgotten, at the clock after the tick, is what drops off
   forgotten-is : (m : ℕ) → m < 65536 → Saves → forgottenOf (suc m) g₁ (timeOf clock) x ≡ droppedOf (ahead roms) m g w x
@@ -179,11 +179,11 @@ turned-is settings p b whole ready sixteen {after} {core₁ = core₁} {journal�
     let here = worldOf from board (p .regs) t (b .ram) (b .paper) in
     let g = ringOf (p .mark) (b .journal) in
     let n = slotsOf (b .journal) in
-    let same : slotsOf journal₁ ≡ n = ap (λ (k : ℕ). k / 256) long in
+    let same : slotsOf journal₁ ≡ n = ap (λ (k : ℕ). k / 512) long in
     let effect = effect-is x y from board t (p .regs) (b .ram) (b .paper) (ticked .world-is) chosen in
     let g₁ = ringOf (p .mark) journal₁ in
     let few : n ≤ 65536 = omega (arith, ready .few) in
-    let saves : 0 < n → recordOf (slot 256 journal₁ (p .mark .«next_slot»)) .saved ≡ recordOf (slot 256 (b .journal) (p .mark .«next_slot»)) .saved =
+    let saves : 0 < n → recordOf (slot 512 journal₁ (p .mark .«next_slot»)) .saved ≡ recordOf (slot 512 (b .journal) (p .mark .«next_slot»)) .saved =
     λ some. rw begun (begun-saved (p .mark) (begunRecord p b) (b .journal) (length-printers (p .words)) ready some) in
     let far : ℕ = keptIn (p .mark) journal₁ (after .clock) (d .effect) (b .index) in
     let far-is : far ≡ distanceIn (tagOf (ahead roms) n g here (b .index)) =
@@ -196,7 +196,7 @@ turned-is settings p b whole ready sixteen {after} {core₁ = core₁} {journal�
       ring-is =
           ring-is (p .mark) (b .journal) ready (begunRecord p b) _ (length-printers (p .words)) begun ended
           (note-is x y from board t (p .regs) (b .ram) (b .paper) (ticked .world-is) chosen far refl kept refl)
-          ∙ ap (λ (k : ℕ). written 256 n (recordBytes (noteOf k roms here)) g) far-is;
+          ∙ ap (λ (k : ℕ). written 512 n (recordBytes (noteOf k roms here)) g) far-is;
       index-is =
           marked
           ∙ rw same (marked-is roms g g₁ here (b .index) (after .clock) (d .effect) on effect refl n few saves);
@@ -216,19 +216,19 @@ clock-next settings core held words paper after core₁ words₁ paper₁ ticked
 
 -- ---- with no slots
 
-no-slots : (journal : List ℕ) → length journal < 256 → eqb (slotsOf journal) 0 ≡ true
+no-slots : (journal : List ℕ) → length journal < 512 → eqb (slotsOf journal) 0 ≡ true
 no-slots journal short = eq-eqb (slotsOf journal) 0 (omega (arith, short))
 
-pub not-begun : (mark : Journal) (r : Record) (journal : List ℕ) → length journal < 256 → begunOf mark r journal ≡ journal
+pub not-begun : (mark : Journal) (r : Record) (journal : List ℕ) → length journal < 512 → begunOf mark r journal ≡ journal
 not-begun mark r journal short = rw (no-slots journal short)
 
-pub not-marked : (mark : Journal) (journal : List ℕ) (clock : Clock) (e : Effect) (ram x : List ℕ) → length journal < 256 → markedIn mark journal clock e ram x ≡ x
+pub not-marked : (mark : Journal) (journal : List ℕ) (clock : Clock) (e : Effect) (ram x : List ℕ) → length journal < 512 → markedIn mark journal clock e ram x ≡ x
 not-marked mark journal clock e ram x short =
     let none : slotsOf journal ≡ 0 = omega (arith, short) in
     ap (λ (n : ℕ). markedBy n (timeOf clock) e ram (forgottenOf n (ringOf mark journal) (timeOf clock) x)) none
 
 -- with some, the two are worked out
-module _ (mark : Journal) (journal : List ℕ) (clock : Clock) (e : Effect) (x : List ℕ) (some : 256 ≤ length journal) where
+module _ (mark : Journal) (journal : List ℕ) (clock : Clock) (e : Effect) (x : List ℕ) (some : 512 ≤ length journal) where
   pub kept-some : keptOf (timeOf clock) (belowIn (slotsOf journal) (mark .«on_hand»)) e (forgottenIn mark journal clock x) ≡ keptIn mark journal clock e x
   kept-some = go (slotsOf journal) (omega arith) (forgottenIn mark journal clock x)
     where
@@ -243,5 +243,5 @@ module _ (mark : Journal) (journal : List ℕ) (clock : Clock) (e : Effect) (x :
       go zero h l = absurd (omega arith)
       go (suc m) h l = refl
 
-pub not-ended : (mark : Journal) (old : Saved) (journal : List ℕ) → length journal < 256 → endedOf mark old journal ≡ ringOf mark journal
+pub not-ended : (mark : Journal) (old : Saved) (journal : List ℕ) → length journal < 512 → endedOf mark old journal ≡ ringOf mark journal
 not-ended mark old journal short = rw (no-slots journal short)

@@ -58,7 +58,7 @@ back-typed r m g t =
     })
 
 -- the same of the record that the bytes of a slot say
-pub slot-typed : (slot : List ℕ) (m : Machine) → length slot ≡ 256 → Below 256 slot → keepsLayout slot ≡ true → WellTyped m →
+pub slot-typed : (slot : List ℕ) (m : Machine) → length slot ≡ 512 → Below 256 slot → keepsLayout slot ≡ true → WellTyped m →
     WellTyped (machineBack (recordOf slot) m)
 slot-typed slot m long bytes keeps t = back-typed (recordOf slot) m (decoded-ranged slot long bytes keeps) t
 
@@ -97,7 +97,7 @@ paper-bytes saved printers paper = puts-bytes (saved .mask) (saved .bytes) print
 
 -- ---- the whole
 
-pub good-back : (slot : List ℕ) (w : World) → Good w → Below 256 slot → length slot ≡ 256 → fitOf slot (viewOf w) ≡ true →
+pub good-back : (slot : List ℕ) (w : World) → Good w → Below 256 slot → length slot ≡ 512 → fitOf slot (viewOf w) ≡ true →
     Good (undoOf (recordOf slot) w)
 unfolding undoOf
 good-back slot w g bytes long e =

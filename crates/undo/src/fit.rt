@@ -44,7 +44,7 @@ fn paper_places_fit(mask: u32, printers: [Printer; 8], paper: usize) -> bool
 
 // `machine` of the answer is the one before the step where the record fits, and of no use where it does not.
 pub fn checked(slot: &[u8], m: Machine, ram: usize, paper: usize) -> Verdict
-    requires { ⌜ length (now slot) ≡ 256 ⌝ }
+    requires { ⌜ length (now slot) ≡ 512 ⌝ }
     requires { ⌜ paper ≤ 65536 ⌝ }
     ensures { λ r. ⌜ CheckedIs (now (slot .entry)) m ram paper r ⌝ }
 {

@@ -9,6 +9,6 @@ tableSize = 16
 abbrev pub devices : ℕ
 devices = 8
 
--- "each step writes one 256-byte record"
+-- "each step writes one .. record"; document 02, L4: "The record grows from 256 to 512 bytes"
 abbrev pub recordSize : ℕ
-recordSize = 256
+recordSize = 512

@@ -40,7 +40,7 @@ slot-back-requires c κs =
     let sound = start .pre .0 .ready .sound in
     (sound .place, le-trans (said start .0) (sound .most))
 
--- a journal has at most 65536 slots
+-- a journal has at most 32768 slots
 cast-turned : tie.Need-cast-turned
 cast-turned c = omega (arith, c .slot-back .ensures .1, c .before .before .before .before .before .before .before .before .before .before .before .before .before .before .before .before .before .before .before .before .pre .0 .ready .few)
 

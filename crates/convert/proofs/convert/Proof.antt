@@ -25,8 +25,8 @@ returns c =
     refused-is (a .old .now) (a .image .now) (length (a .paper .now)) (length (a .journal .now)) Paper
     (says-bad-paper (a .old .now) (a .image .now) (length (a .paper .now)) (length (a .journal .now)) (sym (papered .paper-fits .ensures) ∙ not-true _ (c .if1 .taken)))
 
-journal-fits-requires : tie.Need-journal-fits-requires
-journal-fits-requires c κs = search needs
+journal-before-requires : tie.Need-journal-before-requires
+journal-before-requires c κs = search needs
 
 returns-2 : tie.Need-returns-2
 returns-2 c =
@@ -35,7 +35,7 @@ returns-2 c =
     let a = papered .before .before .before .before .before .args in
     refused-is (a .old .now) (a .image .now) (length (a .paper .now)) (length (a .journal .now)) Journal
     (says-bad-journal (a .old .now) (a .image .now) (length (a .paper .now)) (length (a .journal .now)) (sym (papered .paper-fits .ensures) ∙ not-false _ (journaled .before .if1 .left))
-    (sym (journaled .journal-fits .ensures) ∙ not-true _ (c .if2 .taken)))
+    (sym (journaled .journal-before .ensures) ∙ not-true _ (c .if2 .taken)))
 
 returns-3 : tie.Need-returns-3
 returns-3 c =
@@ -44,7 +44,7 @@ returns-3 c =
     let a = papered .before .before .before .before .before .args in
     refused-is (a .old .now) (a .image .now) (length (a .paper .now)) (length (a .journal .now)) Image
     (says-bad-old (a .old .now) (a .image .now) (length (a .paper .now)) (length (a .journal .now)) (sym (papered .paper-fits .ensures) ∙ not-false _ (journaled .before .if1 .left))
-    (sym (journaled .journal-fits .ensures) ∙ not-false _ (c .before .if2 .left)) (c .if3 .taken))
+    (sym (journaled .journal-before .ensures) ∙ not-false _ (c .before .if2 .left)) (c .if3 .taken))
 
 returns-4 : tie.Need-returns-4
 returns-4 c =
@@ -53,7 +53,7 @@ returns-4 c =
     let a = papered .before .before .before .before .before .args in
     refused-is (a .old .now) (a .image .now) (length (a .paper .now)) (length (a .journal .now)) Image
     (says-bad-new (a .old .now) (a .image .now) (length (a .paper .now)) (length (a .journal .now)) (sym (papered .paper-fits .ensures) ∙ not-false _ (journaled .before .if1 .left))
-    (sym (journaled .journal-fits .ensures) ∙ not-false _ (c .before .before .if2 .left)) (omega (arith, c .before)) (c .if4 .taken))
+    (sym (journaled .journal-before .ensures) ∙ not-false _ (c .before .before .if2 .left)) (omega (arith, c .before)) (c .if4 .taken))
 
 judged-requires : tie.Need-judged-requires
 judged-requires c κs = search needs
@@ -67,7 +67,7 @@ returns-5 c =
     let a = papered .before .before .before .before .before .args in
     refused-is (a .old .now) (a .image .now) (length (a .paper .now)) (length (a .journal .now)) Image
     (says-bad-rules (a .old .now) (a .image .now) (length (a .paper .now)) (length (a .journal .now)) (sym (papered .paper-fits .ensures) ∙ not-false _ (journaled .before .if1 .left))
-    (sym (journaled .journal-fits .ensures) ∙ not-false _ (sized .before .before .if2 .left)) (omega (arith, sized .before)) (omega (arith, sized))
+    (sym (journaled .journal-before .ensures) ∙ not-false _ (sized .before .before .if2 .left)) (omega (arith, sized .before)) (omega (arith, sized))
     (sym (ap (λ (v : Verdict). v .keeps) (judged .judged .ensures)) ∙ not-true _ (c .if5 .taken)))
 
 emptied-requires : tie.Need-emptied-requires
@@ -91,7 +91,7 @@ returns-6 c =
     let a = papered .before .before .before .before .before .args in
     done-is (a .old .now) (a .image .now) (length (a .paper .now)) (length (a .journal .now))
     (says-done (a .old .now) (a .image .now) (length (a .paper .now)) (length (a .journal .now)) (sym (papered .paper-fits .ensures) ∙ not-false _ (journaled .before .if1 .left))
-    (sym (journaled .journal-fits .ensures) ∙ not-false _ (sized .before .before .if2 .left)) (omega (arith, sized .before)) (omega (arith, sized))
+    (sym (journaled .journal-before .ensures) ∙ not-false _ (sized .before .before .if2 .left)) (omega (arith, sized .before)) (omega (arith, sized))
     (sym (ap (λ (v : Verdict). v .keeps) (judged .judged .ensures)) ∙ not-false _ (kept .if5 .left)))
     (encoded .encode .ensures ∙ ap bytesOf (emptied-at .emptied .ensures) ∙ ap (λ (v : Verdict). bytesOf (emptied (v .machine))) (judged .judged .ensures))
 
@@ -101,7 +101,7 @@ convert-spec =
     (tie.spec
     paper-fits-requires
     returns
-    journal-fits-requires
+    journal-before-requires
     returns-2
     returns-3
     returns-4

@@ -16,8 +16,11 @@ decode-requires c κs = search needs
 header-keeps-requires : tie.Need-header-keeps-requires
 header-keeps-requires c κs = search needs
 
-machine-keeps-requires : tie.Need-machine-keeps-requires
-machine-keeps-requires c κs = search needs
+state-keeps-requires : tie.Need-state-keeps-requires
+state-keeps-requires c κs = search needs
+
+journal-keeps-requires : tie.Need-journal-keeps-requires
+journal-keeps-requires c κs = search needs
 
 returns : tie.Need-returns
 unfolding machineBefore keepsBefore
@@ -31,5 +34,6 @@ judged-spec =
     slice-aggregate-decode
     decode-requires
     header-keeps-requires
-    machine-keeps-requires
+    state-keeps-requires
+    journal-keeps-requires
     returns)

@@ -10,10 +10,10 @@ use Rattle.convert.proofs.widened.Statement.{statement}
 use Rattle.convert.proofs.widened.Tie as tie
 
 abbrev Inv-loop : tie.InvT-loop
-Inv-loop old wide₀ i₀ wide i = (i ≤ 501) × (wide ≡ tabulate i (λ (k : ℕ). getD old k 0) ++ drop i wide₀)
+Inv-loop old wide₀ i₀ wide i = (i ≤ 509) × (wide ≡ tabulate i (λ (k : ℕ). getD old k 0) ++ drop i wide₀)
 
 abbrev μ-loop : tie.MeasureT-loop
-μ-loop old wide₀ i₀ wide i = 501 - i
+μ-loop old wide₀ i₀ wide i = 509 - i
 
 loop-holds : tie.Need-loop-holds Inv-loop μ-loop
 loop-holds c = (omega arith, refl)
@@ -41,9 +41,9 @@ returns c =
     let l = c .before .loop in
     let start = c .before .before in
     let old = start .args .old .now in
-    let all : l .i ≡ 501 = omega arith in
-    let own : tabulate 501 (λ (k : ℕ). getD old k 0) ≡ old = rw (start .pre) at (tabulate-getD old 0) in
-    l .inv .1 ∙ rw (all) (ap (λ (front : List ℕ). front ++ replicate 8 0) own)
+    let all : l .i ≡ 509 = omega arith in
+    let own : tabulate 509 (λ (k : ℕ). getD old k 0) ≡ old = rw (start .pre) at (tabulate-getD old 0) in
+    l .inv .1 ∙ rw (all) (ap (λ (front : List ℕ). front ++ replicate 232 0) own)
 
 pub widened-spec : {M : Type 1} → statement M
 widened-spec =

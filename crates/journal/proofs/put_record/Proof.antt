@@ -42,16 +42,16 @@ returns : tie.Need-returns
 returns c =
     let start = c .before .before .before .before .before in
     let journal = start .args .journal .now in
-    let at : ℕ = 256 * start .args .next in
+    let at : ℕ = 512 * start .args .next in
     let core = start .args .core .now in
     let words = start .args .words .now in
     let r : Record = heldRecord core (start .args .timer) (start .args .pending) (start .args .paper) words in
-    let old : List ℕ = slot 256 journal (start .args .next) in
+    let old : List ℕ = slot 512 journal (start .args .next) in
     let same = laid-held core (start .args .timer) (start .args .pending) (start .args .paper) words old (start .pre .1 .0) (start .pre .1 .1) in
-    let room : length old ≡ 256 = length-slot 256 (length journal / 256) journal (omega arith) (start .args .next) (start .pre .0) in
-    let long : length (begunIn r old) ≡ 256 = length-begun r old room (length-printers words) in
-    ap (putMid at (at + 256 - at) journal) (rw (slot-part 256 journal (start .args .next)) at (c .before .before .encode .ensures) ∙ same)
-    ∙ put-part journal at (at + 256) (begunIn r old) (ap (λ (n : ℕ). at + n) (sym long))
+    let room : length old ≡ 512 = length-slot 512 (length journal / 512) journal (omega arith) (start .args .next) (start .pre .0) in
+    let long : length (begunIn r old) ≡ 512 = length-begun r old (length-printers words) room in
+    ap (putMid at (at + 512 - at) journal) (rw (slot-part 512 journal (start .args .next)) at (c .before .before .encode .ensures) ∙ same)
+    ∙ put-part journal at (at + 512) (begunIn r old) (ap (λ (n : ℕ). at + n) (sym long))
 
 pub put-record-spec : {M : Type 1} → statement M
 put-record-spec =

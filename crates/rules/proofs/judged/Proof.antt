@@ -7,8 +7,8 @@ use Rattle.rules.proofs.judged.Tie as tie
 decode-requires : tie.Need-decode-requires
 decode-requires c κs = search needs
 
-header-keeps-requires : tie.Need-header-keeps-requires
-header-keeps-requires c κs = search needs
+bytes-keep-requires : tie.Need-bytes-keep-requires
+bytes-keep-requires c κs = search needs
 
 machine-keeps-requires : tie.Need-machine-keeps-requires
 machine-keeps-requires c κs = search needs
@@ -19,4 +19,4 @@ returns c = cc
 
 pub judged-spec : {M : Type 1} → statement M
 judged-spec =
-    tie.close (tie.spec decode-requires header-keeps-requires machine-keeps-requires returns)
+    tie.close (tie.spec decode-requires bytes-keep-requires machine-keeps-requires returns)

@@ -71,7 +71,7 @@ returns-2 c =
     forgets-full (ringOf (a .mark) journal) (timeOf (a .clock)) (a .index .now) slots (wrapped .wrapping-sub-u64 .result) (read .saved .result) _
     (full .if1 .left) (start .pre .1 .1)
     (gone ∙ ap (λ (t : ℕ). slotBack whole t slots) (timed .time .ensures))
-    (read .saved .ensures ∙ ap (λ (l : List ℕ). recordOf l .saved) (slot-part 256 journal (a .mark .«next_slot»)))
+    (read .saved .ensures ∙ ap (λ (l : List ℕ). recordOf l .saved) (slot-part 512 journal (a .mark .«next_slot»)))
     (forgot .forget-saved .ensures)
 
 pub forget-spec : {M : Type 1} → statement M

@@ -1,4 +1,4 @@
--- `record::encode::encode` meets its contract: the five parts stored one after the other, by `laid`.
+-- `record::encode::encode` meets its contract: the four parts stored one after the other, by `laid`.
 use borrow.Author.Needs.{needs}
 use mathlib.Core.Path.{refl}
 use Rattle.record.proofs.Laid.{laid}
@@ -44,19 +44,12 @@ part-put-words-end-2 c = search needs
 put-words-requires-4 : tie.Need-put-words-requires-4
 put-words-requires-4 c κs = search needs
 
-slice-aggregate-put-words-3 : tie.Need-slice-aggregate-put-words-3
-slice-aggregate-put-words-3 c = search needs
-
-put-words-requires-5 : tie.Need-put-words-requires-5
-put-words-requires-5 c κs = search needs
-
 same-length : tie.Need-same-length
 same-length c = search needs
 
 returns : tie.Need-returns
 returns c =
-    let fifth = c .before .before in
-    let fourth = fifth .before .before .before .before .before in
+    let fourth = c .before .before in
     let third = fourth .before .before .before .before .before .before in
     let second = third .before .before .before .before .before .before .before in
     let first = second .before .before .before .before .before in
@@ -68,7 +61,6 @@ returns c =
     (second .put-words2 .ensures)
     (third .put-words3 .ensures)
     (fourth .put-words4 .ensures)
-    (fifth .put-words5 .ensures)
 
 pub encode-spec : {M : Type 1} → statement M
 encode-spec =
@@ -87,7 +79,5 @@ encode-spec =
     part-put-words-start-2
     part-put-words-end-2
     put-words-requires-4
-    slice-aggregate-put-words-3
-    put-words-requires-5
     same-length
     returns)
