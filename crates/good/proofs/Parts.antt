@@ -1,12 +1,12 @@
 -- The words of a machine part by part, and the machine made of them again: so a step that changes one part shows that part alone.
 use Prim.Native.Nat.{ℕ, _^_, _<_}
-use mathlib.Core.Path.{_≡_}
+use mathlib.Core.Path.{_≡_, refl}
 use mathlib.Core.List.{List, [], _∷_, _++_}
 use native.Mathlib.Omega.{arith}
 use lib.ListN.{drop}
 use Rattle.word.specs.Lists.{flat, Below}
-use Rattle.word.proofs.Lists.{below-nil, below-cons, below-append}
-use Rattle.state.specs.Layout.{coreWords, slotWords, keptWords, rowWords, clockWords, settingsWords, printerWords, journalWords, wordsOf, Sized, HoldsZero, WellTyped}
+use Rattle.word.proofs.Lists.{below-nil, below-cons, below-append, below-numerals}
+use Rattle.state.specs.Layout.{coreWords, slotWords, keptWords, rowWords, clockWords, settingsWords, printerWords, journalWords, noDisks, wordsOf, Sized, HoldsZero, WellTyped}
 use Rattle.state.specs.declared.machine.Machine.{Machine}
 use Rattle.good.proofs.Belows.{below-left, below-right}
 
@@ -33,8 +33,11 @@ module _ (m : Machine) where
   abbrev regs : List ℕ
   regs = drop 1 (m .cpu .regs)
 
+  abbrev from-slot : List ℕ
+  from-slot = slotWords (m .cpu .core) ++ noDisks
+
   abbrev from-journal : List ℕ
-  from-journal = journalWords (m .journal) ++ slotWords (m .cpu .core)
+  from-journal = journalWords (m .journal) ++ from-slot
 
   abbrev last : List ℕ
   last = m .board .line .pending ∷ from-journal
@@ -68,13 +71,13 @@ module _ (m : Machine) where
         regs = with-zero (m .cpu .regs) (t .zero) (below-left regs from-core (t .small));
         core =
             below-append (coreWords (m .cpu .core)) (slotWords (m .cpu .core)) (below-left (coreWords (m .cpu .core)) from-rows h₁)
-            (below-right (journalWords (m .journal)) (slotWords (m .cpu .core)) h₇);
+            (below-left (slotWords (m .cpu .core)) noDisks (below-right (journalWords (m .journal)) from-slot h₇));
         rows = below-left (flat rowWords (m .cpu .tlb)) from-clock h₂;
         clock = below-left (clockWords (m .board .clock)) from-settings h₃;
         settings = below-left (settingsWords (m .board .settings)) from-printers h₄;
         printers = below-left (flat printerWords (m .board .line .printers)) last h₅;
         pending = h₆ 0 (omega arith);
-        journal = below-left (journalWords (m .journal)) (slotWords (m .cpu .core)) h₇;
+        journal = below-left (journalWords (m .journal)) from-slot h₇;
       }
 
   pub well-typed : Sized m → HoldsZero (m .cpu .regs) → Words m → WellTyped m
@@ -90,6 +93,7 @@ module _ (m : Machine) where
         (below-append (settingsWords (m .board .settings)) from-printers (w .settings)
         (below-append (flat printerWords (m .board .line .printers)) last (w .printers)
         (below-cons from-journal (w .pending)
-        (below-append (journalWords (m .journal)) (slotWords (m .cpu .core)) (w .journal)
-        (below-right (coreWords (m .cpu .core)) (slotWords (m .cpu .core)) (w .core)))))))));
+        (below-append (journalWords (m .journal)) from-slot (w .journal)
+        (below-append (slotWords (m .cpu .core)) noDisks (below-right (coreWords (m .cpu .core)) (slotWords (m .cpu .core)) (w .core))
+        (below-numerals noDisks refl)))))))));
   }
