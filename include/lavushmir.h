@@ -46,7 +46,7 @@ extern "C" {
 #endif
 
 /* Goes up by one with every change of this header that a caller can see. */
-#define LAVUSHMIR_VERSION 5
+#define LAVUSHMIR_VERSION 6
 
 /* Limits. A length that breaks one of them is refused. */
 #define LAVUSHMIR_FRAME_BYTES 4096      /* RAM is made of whole frames */
@@ -54,8 +54,8 @@ extern "C" {
 #define LAVUSHMIR_LEAST_ROM_BYTES 4     /* of either ROM, a multiple of 4 */
 #define LAVUSHMIR_MOST_ROM_BYTES 65536
 #define LAVUSHMIR_MOST_PAPER_BYTES 65536 /* a multiple of 8, may be 0 */
-#define LAVUSHMIR_RECORD_BYTES 256      /* a journal is made of whole records */
-#define LAVUSHMIR_MOST_JOURNAL_BYTES 16777216 /* 65,536 records, may be 0 */
+#define LAVUSHMIR_RECORD_BYTES 512      /* a journal is made of whole records */
+#define LAVUSHMIR_MOST_JOURNAL_BYTES 16777216 /* 32,768 records, may be 0 */
 #define LAVUSHMIR_INDEX_ENTRY_BYTES 16  /* an index has an entry for each frame */
 #define LAVUSHMIR_LAST_WRITE_BYTES 16   /* what lavushmir_last_write writes */
 #define LAVUSHMIR_MOST_BUDGET 1000000   /* steps of one run */
@@ -71,14 +71,16 @@ extern "C" {
 
 /*
  * The state image: a length word (the bytes behind it), a version byte, then
- * 126 words, all big-endian. docs/MACHINE.md lists the rules that it keeps.
+ * 184 words, all big-endian. docs/MACHINE.md lists the rules that it keeps.
  */
-#define LAVUSHMIR_IMAGE_BYTES 509
-#define LAVUSHMIR_IMAGE_VERSION 2
-#define LAVUSHMIR_IMAGE_WORDS 126
+#define LAVUSHMIR_IMAGE_BYTES 741
+#define LAVUSHMIR_IMAGE_VERSION 3
+#define LAVUSHMIR_IMAGE_WORDS 184
 
-/* An image of version 1, which lavushmir_convert takes and no other call. */
-#define LAVUSHMIR_OLD_IMAGE_BYTES 501
+/* An image of version 2, and the records of its journal, which lavushmir_convert
+   takes and no other call. */
+#define LAVUSHMIR_OLD_IMAGE_BYTES 509
+#define LAVUSHMIR_OLD_RECORD_BYTES 256
 
 /* The places of the image's words, for lavushmir_image_word. */
 enum {
@@ -108,7 +110,13 @@ enum {
     LAVUSHMIR_WORD_ON_HAND = 122,
     LAVUSHMIR_WORD_NEXT_SLOT = 123, /* the journal's, no branch's */
     LAVUSHMIR_WORD_SLOT_FLAG = 124, /* 1: the next step is a branch's slot */
-    LAVUSHMIR_WORD_BRANCH = 125 /* the address of that branch; 0 without one */
+    LAVUSHMIR_WORD_BRANCH = 125, /* the address of that branch; 0 without one */
+    /* Disks. No disk can be installed yet: these words are 0. */
+    LAVUSHMIR_WORD_DISKS_INSTALLED = 126,
+    LAVUSHMIR_WORD_DISK = 127, /* disk n, 0 to 7: from word 127 + 7 n on STATUS,
+                                  COMMAND, DATA0, DATA1, ticks left, words left,
+                                  cylinder */
+    LAVUSHMIR_WORD_DISKS_PENDING = 183
 };
 
 /* The big-endian word at `at`, as image, index and last_write's answer have them. */
@@ -117,7 +125,7 @@ static inline uint32_t lavushmir_word(const uint8_t *at)
     return (uint32_t)at[0] << 24 | (uint32_t)at[1] << 16 | (uint32_t)at[2] << 8 | (uint32_t)at[3];
 }
 
-/* Word `place` (0 to 125) of an image of LAVUSHMIR_IMAGE_BYTES bytes. */
+/* Word `place` (0 to 183) of an image of LAVUSHMIR_IMAGE_BYTES bytes. */
 static inline uint32_t lavushmir_image_word(const uint8_t *image, unsigned place)
 {
     return lavushmir_word(image + 5 + (size_t)4 * place);
@@ -166,11 +174,12 @@ enum {
     LAVUSHMIR_BAD_ROM = 2,
     /* paper is over 65,536 bytes or not a multiple of 8 (0 is allowed) */
     LAVUSHMIR_BAD_PAPER = 3,
-    /* journal is over 16,777,216 bytes or not a multiple of 256 (0 is allowed) */
+    /* journal is over 16,777,216 bytes or not a multiple of 512, for convert of 256
+       (0 is allowed) */
     LAVUSHMIR_BAD_JOURNAL = 4,
-    /* image is not 509 bytes, or (not for reset) breaks a rule of the image;
-       convert: the old image is not 501 bytes or breaks a rule of version 1, or
-       image is not 509 bytes */
+    /* image is not 741 bytes, or (not for reset) breaks a rule of the image;
+       convert: the old image is not 509 bytes or breaks a rule of version 2, or
+       image is not 741 bytes */
     LAVUSHMIR_BAD_IMAGE = 5,
     /* reset: time scale not 1 to 255, printer delay not 1 to 65,535, installed
        map over 255; run: budget over 1,000,000 */
@@ -214,7 +223,7 @@ static inline const char *lavushmir_text(unsigned number)
     case LAVUSHMIR_BAD_ROM: return "a ROM is not 4 to 65,536 bytes, a multiple of 4";
     case LAVUSHMIR_BAD_PAPER: return "paper is over 65,536 bytes or not a multiple of 8";
     case LAVUSHMIR_BAD_JOURNAL:
-        return "journal is over 16,777,216 bytes or not a multiple of 256";
+        return "journal is over 16,777,216 bytes or not a multiple of 512 (convert: of 256)";
     case LAVUSHMIR_BAD_IMAGE: return "image is not of its length, or breaks a rule of the image";
     case LAVUSHMIR_BAD_PARAMETER: return "a number is out of its range";
     case LAVUSHMIR_NOT_ON_HAND: return "more steps are asked for than are on hand";
@@ -272,17 +281,17 @@ static inline uint32_t lavushmir_steps(uint64_t answer)
  * installed      0 to 255, bit n on where printer n is installed.
  *
  * Answers, the first that applies:
- *   LAVUSHMIR_BAD_IMAGE      image_bytes is not 509. Reset looks at the length
+ *   LAVUSHMIR_BAD_IMAGE      image_bytes is not 741. Reset looks at the length
  *                            only, never at what the image holds.
  *   LAVUSHMIR_BAD_PARAMETER  one of the three parameters is out of its range.
  *   LAVUSHMIR_BAD_INDEX      index_bytes is not 16 times 1 to 4,096. Reset is lent
  *                            no RAM, so it does not see whether the two fit.
- *   LAVUSHMIR_DONE           all 509 bytes, and all of the index, are written.
+ *   LAVUSHMIR_DONE           all 741 bytes, and all of the index, are written.
  * Each comes with 0 steps and LAVUSHMIR_NO_REASON, so that the whole answer is
  * equal to its number. A refusal leaves every byte as it was.
  *
- * The index then holds 0 everywhere, and the image too, but for: length word 505,
- * version 2, PC 0x1FC00000, next PC 0x1FC00004, Status 0x10400000, Random
+ * The index then holds 0 everywhere, and the image too, but for: length word 737,
+ * version 3, PC 0x1FC00000, next PC 0x1FC00004, Status 0x10400000, Random
  * 0x00000F00, timer 0xFFFFFFFF, the three parameters, and STATUS 1 for each
  * installed printer. No step is on hand: what the journal holds can not be taken
  * back.
@@ -304,7 +313,7 @@ uint64_t lavushmir_reset(uint8_t *image, size_t image_bytes,
  *                      address 0x20000000 on.
  * paper                what the printers print on, an eighth for each: up to
  *                      65,536 bytes, a multiple of 8. May be empty.
- * journal              room for the records of the newest steps, 256 bytes for
+ * journal              room for the records of the newest steps, 512 bytes for
  *                      each: up to 16,777,216 bytes. May be empty: then no step
  *                      can be taken back.
  * index                which step on hand last changed each frame of ram: 16
@@ -318,7 +327,7 @@ uint64_t lavushmir_reset(uint8_t *image, size_t image_bytes,
  *   LAVUSHMIR_BAD_ROM        the length of a ROM is not allowed.
  *   LAVUSHMIR_BAD_PAPER      the length of paper is not allowed.
  *   LAVUSHMIR_BAD_JOURNAL    the length of journal is not allowed.
- *   LAVUSHMIR_BAD_IMAGE      image_bytes is not 509, or the image breaks a rule.
+ *   LAVUSHMIR_BAD_IMAGE      image_bytes is not 741, or the image breaks a rule.
  *   LAVUSHMIR_BAD_PARAMETER  budget is over 1,000,000.
  *   LAVUSHMIR_BAD_INDEX      index_bytes is not 16 for each frame of ram.
  *   LAVUSHMIR_DONE           with the steps that were really run, and
@@ -373,7 +382,7 @@ uint64_t lavushmir_run(uint8_t *image, size_t image_bytes,
  *   LAVUSHMIR_BAD_RAM        the length of ram is not allowed.
  *   LAVUSHMIR_BAD_PAPER      the length of paper is not allowed.
  *   LAVUSHMIR_BAD_JOURNAL    the length of journal is not allowed.
- *   LAVUSHMIR_BAD_IMAGE      image_bytes is not 509, or the image breaks a rule.
+ *   LAVUSHMIR_BAD_IMAGE      image_bytes is not 741, or the image breaks a rule.
  *   LAVUSHMIR_NOT_ON_HAND    steps is more than the image has on hand.
  *   LAVUSHMIR_BAD_RECORD     one of the records asked for is not well formed:
  *                            its bytes do not keep the layout of docs/RECORD.md,
@@ -425,7 +434,7 @@ uint64_t lavushmir_take_back(uint8_t *image, size_t image_bytes,
  *   LAVUSHMIR_BAD_RAM        the length of ram is not allowed.
  *   LAVUSHMIR_BAD_PAPER      the length of paper is not allowed.
  *   LAVUSHMIR_BAD_JOURNAL    the length of journal is not allowed.
- *   LAVUSHMIR_BAD_IMAGE      image_bytes is not 509, or the image breaks a rule.
+ *   LAVUSHMIR_BAD_IMAGE      image_bytes is not 741, or the image breaks a rule.
  *   LAVUSHMIR_BAD_RECORD     one of the records on hand is not well formed: taking
  *                            back all that is on hand would be refused for it.
  *   LAVUSHMIR_BAD_INDEX      index_bytes is not 16 for each frame of ram.
@@ -472,32 +481,32 @@ static inline uint32_t lavushmir_last_write_new(const uint8_t *answer)
  * a machine that was kept from then. Every other call answers
  * LAVUSHMIR_BAD_IMAGE for such an image.
  *
- * old                  the image of version 1. Only read.
+ * old                  the image of version 2. Only read. One of version 1 is
+ *                      refused: the version before this one converts it.
  * old_bytes            its length, LAVUSHMIR_OLD_IMAGE_BYTES.
  * image                lent for writing, LAVUSHMIR_IMAGE_BYTES bytes. What it
  *                      holds before the call does not matter.
  * image_bytes          the length of that buffer.
- * paper, journal       those of the machine, as for run: the old image is judged
- *                      with their lengths. Only read.
+ * paper, journal       those of the machine, the journal with its records of 256
+ *                      bytes: the old image is judged with their lengths. Only
+ *                      read.
  *
  * Answers, the first that applies:
  *   LAVUSHMIR_BAD_PAPER      the length of paper is not allowed.
- *   LAVUSHMIR_BAD_JOURNAL    the length of journal is not allowed.
- *   LAVUSHMIR_BAD_IMAGE      old_bytes is not 501, or the old image breaks a rule
- *                            of version 1, or image_bytes is not 509.
- *   LAVUSHMIR_DONE           all 509 bytes of image have been written.
+ *   LAVUSHMIR_BAD_JOURNAL    journal_bytes is over 16,777,216 or not a multiple of
+ *                            256.
+ *   LAVUSHMIR_BAD_IMAGE      old_bytes is not 509, or the old image breaks a rule
+ *                            of version 2, or image_bytes is not 741.
+ *   LAVUSHMIR_DONE           all 741 bytes of image have been written.
  * Each comes with 0 steps and LAVUSHMIR_NO_REASON, so that the whole answer is
  * equal to its number. A refusal leaves every byte of the image as it was.
  *
- * The image then holds every word of the old one, but for: length word 505,
- * version 2, steps on hand 0; and behind them slot flag 0 and branch address 0.
- * No step is on hand: what the journal holds can not be taken back, since its
- * records are of the version before. Next slot stays as it was. The host lends an
- * index of 0 from then on, which is the right one while no step is on hand.
- *
- * An old image does not tell whether its next step is a branch's slot. If it is,
- * an exception in that one step leaves the address of the slot in EPC, as it did
- * in the version before.
+ * The image then holds every word of the old one, but for: length word 737,
+ * version 3, steps on hand 0, next slot 0; and behind them 58 words of 0. No step
+ * is on hand: what the journal holds can not be taken back, since its records are
+ * of the version before. The host lends a journal of records of this version from
+ * then on, of any allowed length, and an index of 0, which is the right one while
+ * no step is on hand.
  */
 uint64_t lavushmir_convert(const uint8_t *old, size_t old_bytes,
                            uint8_t *image, size_t image_bytes,
@@ -561,7 +570,8 @@ static inline uint64_t lavushmir_buffers_last_write(const struct lavushmir_buffe
                                 b->index_bytes, address, answer, LAVUSHMIR_LAST_WRITE_BYTES);
 }
 
-/* From `old`, which is not one of the buffers, to the image. */
+/* From `old`, which is not one of the buffers, to the image. The journal is the old
+   one still. */
 static inline uint64_t lavushmir_buffers_convert(const struct lavushmir_buffers *b,
                                                  const uint8_t *old, size_t old_bytes)
 {

@@ -2,7 +2,7 @@
  * Station: the session of a technician with one machine, callable from C.
  *
  * For C99 and C++. Link with libstation.a (x86-64). The archive also has
- * lavushmir_convert of lavushmir.h, for a station of the first version.
+ * lavushmir_convert of lavushmir.h, for a station of the version before.
  *
  * A station is a machine with its seven buffers: state image, execution ROM,
  * bootstrap ROM, RAM, paper, journal, index. What a person types is understood,
@@ -61,7 +61,7 @@ extern "C" {
 #define STATION_OUT_BYTES 65536
 
 /* The length of the state image. */
-#define STATION_IMAGE_BYTES 509
+#define STATION_IMAGE_BYTES 741
 
 /* Words of the session that both sides know. All others belong to the session:
    the C side neither reads nor writes them. */
@@ -270,7 +270,7 @@ uint64_t station_panel_turn(uint64_t *session, uint64_t event,
 #define STATION_GDB_OUT_BYTES 131072
 #define STATION_GDB_PACKET_BYTES 16384
 #define STATION_GDB_REPLY_BYTES 65536
-#define STATION_GDB_KEPT_BYTES 328192
+#define STATION_GDB_KEPT_BYTES 590592
 
 enum {
     /* How many bytes of `in` the turn used. */
@@ -311,23 +311,6 @@ uint64_t station_compare_turn(
     const uint8_t *other_ram, size_t other_ram_bytes,
     const uint8_t *other_paper, size_t other_paper_bytes,
     const uint8_t *other_journal, size_t other_journal_bytes);
-
-/*
- * The index of a station that was saved without one. The steps on hand are taken
- * back and run again: that writes the index, and the records with what they keep of
- * it, and leaves image, RAM and paper as they were where the journal is the true one
- * of that state. `index` is 0 everywhere before the call.
- *
- * Answers as lavushmir_take_back of lavushmir.h does where it refuses; else as
- * lavushmir_run does. After a refusal all buffers may have been written.
- */
-uint64_t station_lay_index(uint8_t *image, size_t image_bytes,
-                           const uint8_t *execution, size_t execution_bytes,
-                           const uint8_t *bootstrap, size_t bootstrap_bytes,
-                           uint8_t *ram, size_t ram_bytes,
-                           uint8_t *paper, size_t paper_bytes,
-                           uint8_t *journal, size_t journal_bytes,
-                           uint8_t *index, size_t index_bytes);
 
 #ifdef __cplusplus
 }

@@ -30,7 +30,7 @@
     "Exit status: 0 done, 1 refused, 2 usage, 3 trouble with a file,\n"        \
     "4 another program holds the station.\n"
 
-#define VERSION "lavushmir 0.8\n"
+#define VERSION "lavushmir 0.9\n"
 
 static int usage(void)
 {

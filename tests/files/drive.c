@@ -19,7 +19,7 @@
 enum { IMAGE, RAM, PAPER, JOURNAL, INDEX, FILES };
 #define MIB ((size_t)1 << 20)
 
-static unsigned char rom[2][4096], image[509], ram[16u << 20], paper[65536], journal[16u << 20], index_[65536];
+static unsigned char rom[2][4096], image[741], ram[16u << 20], paper[65536], journal[16u << 20], index_[65536];
 static sf_file roms[2] = {{"execution.rom", rom[0], 0, 4096, 0}, {"bootstrap.rom", rom[1], 0, 4096, 0}};
 static sf_file files[FILES] = {{"image", image, 0, sizeof image, 0},
                                {"ram", ram, 0, sizeof ram, 0},
@@ -42,7 +42,7 @@ static void make_state(unsigned long seed)
     int big = getenv("DRIVE_BIG") != NULL;
     fill(&roms[0], 1001, 4096);
     fill(&roms[1], 1002, 1024);
-    fill(&files[IMAGE], seed, 509);
+    fill(&files[IMAGE], seed, sizeof image);
     fill(&files[RAM], seed + 1, big ? 16 * MIB : 4096);
     fill(&files[PAPER], seed + 2, big ? 65536 : seed % 3 * 50); /* also empty */
     fill(&files[JOURNAL], seed + 3, big ? 16 * MIB : seed % 5 * 300);

@@ -100,7 +100,7 @@ def golden():
         one_line(run("save", s, 10, exe=exe), 3, "highest number")
         os.rename(s + "/999999999", s + "/9")
         put(s + "/current", good)
-        put(s + "/9/image", b"x" * 510)
+        put(s + "/9/image", b"x" * 742)
         one_line(run("load", s, exe=exe), 3, "9/image", "longer", "lavushmir --restore STATION")
         ok("restore", s, exe=exe)
         assert ok("load", s, exe=exe) == STATE[8]

@@ -74,14 +74,3 @@ uint64_t lavushmir_convert(const uint8_t *old, size_t old_bytes, uint8_t *image,
     (void)paper, (void)paper_bytes, (void)journal, (void)journal_bytes;
     abort();
 }
-
-uint64_t station_lay_index(uint8_t *image, size_t image_bytes, const uint8_t *execution, size_t execution_bytes,
-                           const uint8_t *bootstrap, size_t bootstrap_bytes, uint8_t *ram, size_t ram_bytes,
-                           uint8_t *paper, size_t paper_bytes, uint8_t *journal, size_t journal_bytes, uint8_t *index,
-                           size_t index_bytes)
-{
-    (void)image, (void)image_bytes, (void)execution, (void)execution_bytes, (void)bootstrap, (void)bootstrap_bytes;
-    (void)ram, (void)ram_bytes, (void)paper, (void)paper_bytes, (void)journal, (void)journal_bytes;
-    (void)index, (void)index_bytes;
-    abort();
-}

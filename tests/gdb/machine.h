@@ -11,7 +11,7 @@
 
 #include "../../include/station.h"
 
-enum { PAGE = 4096, GUARD_BYTE = 0xA5, SLOT = 256 };
+enum { PAGE = 4096, GUARD_BYTE = 0xA5, SLOT = 512 };
 
 struct lent {
     uint8_t *whole, *bytes;

@@ -38,8 +38,8 @@ PATH=$work/bin:$PATH
 station() {
     rm -rf "$1"
     case $2 in
-    import) set -- "$1" kernel.rom boot.rom import.bin 65536 ;;
-    ticks) set -- "$1" ticks_kernel.rom ticks_boot.rom ticks.bin 65536 ;;
+    import) set -- "$1" kernel.rom boot.rom import.bin 32768 ;;
+    ticks) set -- "$1" ticks_kernel.rom ticks_boot.rom ticks.bin 32768 ;;
     small) set -- "$1" ticks_kernel.rom ticks_boot.rom ticks.bin 3000 ;;
     tiny) set -- "$1" ticks_kernel.rom ticks_boot.rom ticks.bin 16 ;;
     esac
@@ -86,7 +86,7 @@ notices() {
 # The job is done, and its units are wrong.
 job_done() {
     station job import
-    lavushmir job run 40000 > run.log
+    lavushmir job run 32000 > run.log
 }
 
 job_done

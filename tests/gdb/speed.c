@@ -40,7 +40,7 @@ int main(int argc, char **argv)
 {
     uint32_t steps = argc > 1 ? (uint32_t)strtoul(argv[1], NULL, 10) : 1000000;
     size_t frames = argc > 2 ? strtoul(argv[2], NULL, 10) : 64;
-    struct machine m = make_machine(frames, 65536);
+    struct machine m = make_machine(frames, 32768);
     double plain = 1e9, pointed = 1e9, took;
     ask(&m, "QStartNoAckMode");
     run(&m, 200000); /* the journal is full from here on */

@@ -60,12 +60,12 @@ static struct station random_station(void)
     uint8_t none = 0;
     leave(s);
     s.out = lend(dice(3) == 0 ? dice(200) : STATION_OUT_BYTES);
-    s.image = lend(dice(20) == 0 ? dice(600) : STATION_IMAGE_BYTES);
+    s.image = lend(dice(20) == 0 ? dice(900) : STATION_IMAGE_BYTES);
     s.execution = random_buffer(4 * (1 + dice(16)));
     s.bootstrap = boot_rom();
     s.ram = random_buffer(dice(20) == 0 ? dice(9000) : 4096 * (1 + dice(3)));
     s.paper = random_buffer(dice(20) == 0 ? dice(100) : 8 * dice(20));
-    s.journal = random_buffer(dice(20) == 0 ? dice(1000) : 256 * dice(40));
+    s.journal = random_buffer(dice(20) == 0 ? dice(1000) : 512 * dice(40));
     s.index = random_buffer(dice(20) == 0 ? dice(100) : s.ram.len / 256);
     s.session[11] = 3; /* the mode, and the three parameters: crates/session/src/words.rt */
     s.session[16] = 1 + dice(255);

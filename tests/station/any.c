@@ -123,7 +123,8 @@ uint64_t station_compare_turn(uint64_t *session, uint8_t *out, size_t out_bytes,
 }
 
 /* Done or refused, by dice too. The image is written either way: a C side that
- * saves what was refused would be seen to. */
+ * saves what was refused would be seen to. The journal is the old one, of five
+ * slots as conversions.py has it. */
 uint64_t lavushmir_convert(const uint8_t *old, size_t old_bytes, uint8_t *image, size_t image_bytes,
                            const uint8_t *paper, size_t paper_bytes, const uint8_t *journal, size_t journal_bytes)
 {
@@ -134,36 +135,9 @@ uint64_t lavushmir_convert(const uint8_t *old, size_t old_bytes, uint8_t *image,
     for (int i = 0; i < 3; i++)
         if (counts[i] > 0)
             sum += all[i][0] + all[i][counts[i] - 1];
-    if (image_bytes != LAVUSHMIR_IMAGE_BYTES)
+    if (old_bytes != LAVUSHMIR_OLD_IMAGE_BYTES || image_bytes != LAVUSHMIR_IMAGE_BYTES ||
+        journal_bytes != 5 * LAVUSHMIR_OLD_RECORD_BYTES)
         abort();
     image[0] = image[image_bytes - 1] = (uint8_t)sum;
     return numbers[dice(4)];
-}
-
-/* Refused, or done with the state as it was, or done with another state. */
-uint64_t station_lay_index(uint8_t *image, size_t image_bytes, const uint8_t *execution, size_t execution_bytes,
-                           const uint8_t *bootstrap, size_t bootstrap_bytes, uint8_t *ram, size_t ram_bytes,
-                           uint8_t *paper, size_t paper_bytes, uint8_t *journal, size_t journal_bytes, uint8_t *index,
-                           size_t index_bytes)
-{
-    static const uint64_t numbers[] = {LAVUSHMIR_DONE, LAVUSHMIR_DONE, LAVUSHMIR_BAD_ROM, LAVUSHMIR_BAD_RECORD};
-    uint64_t number = numbers[dice(4)];
-    unsigned sum = 0;
-    for (size_t i = 0; i < execution_bytes; i++)
-        sum += execution[i];
-    for (size_t i = 0; i < bootstrap_bytes; i++)
-        sum += bootstrap[i];
-    if (image_bytes != LAVUSHMIR_IMAGE_BYTES || index_bytes != ram_bytes / 256 || sum == UINT32_MAX)
-        abort();
-    for (size_t i = 0; i < index_bytes; i++)
-        if (index[i] != 0)
-            abort();
-    touch(journal, journal_bytes);
-    touch(index, index_bytes);
-    if (number != LAVUSHMIR_DONE || dice(3) == 0) {
-        touch(image, image_bytes);
-        touch(ram, ram_bytes);
-        touch(paper, paper_bytes);
-    }
-    return number;
 }

@@ -17,7 +17,7 @@ def make_roms():
 
 
 def state(s):
-    """The bytes of the generation in force. One of an earlier version has no index."""
+    """The bytes of the generation in force. One from before the index has none."""
     gen = get(s + "/current").split()[0].decode()
     files = {n: "%s/%s/%s" % (s, gen, n) for n in NAMES}
     return {n: get(p) for n, p in files.items() if n != "index" or os.path.exists(p)}
@@ -28,9 +28,9 @@ def clock(s):
     return int.from_bytes(state(s)["image"][5 + 4 * 75:5 + 4 * 77], "big")
 
 
-def make(s, *runs):
+def make(s, *runs, words=SMALL):
     """A small station, with a save after each of these runs."""
-    ok(s, *SMALL)
+    ok(s, *words)
     for n in runs:
         ok(s, "run", str(n))
     return s

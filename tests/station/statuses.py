@@ -42,7 +42,7 @@ def commands(folder):
     """One command from the arguments: done, refused, no command, file trouble."""
     s = make(B + "/commands")
     before = state(s)
-    assert clock(s) == 0 and len(before["ram"]) == 4096 and len(before["journal"]) == 1024
+    assert clock(s) == 0 and len(before["ram"]) == 4096 and len(before["journal"]) == 2048
     assert get(s + "/execution.rom") == get(EXECUTION) and get(s + "/bootstrap.rom") == get(BOOTSTRAP)
     ok(s, "run", "250000", folder=folder)
     assert clock(s) == 250000
@@ -108,8 +108,8 @@ def scripts(folder):
 def largest(folder):
     """The largest machine, and files up to the length of its RAM and above it."""
     s, full = B + "/largest", b"\xa5" * (16 << 20)
-    ok(s, "new", "ram", "4096", "paper", "65536", "journal", "65536", *SMALL[7:], folder=folder)
-    assert [len(f) for f in state(s).values()] == [509, 16 << 20, 65536, 16 << 20, 65536]
+    ok(s, "new", "ram", "4096", "paper", "65536", "journal", "32768", *SMALL[7:], folder=folder)
+    assert [len(f) for f in state(s).values()] == [741, 16 << 20, 65536, 16 << 20, 65536]
     for more, status in ((b"", 0), (b"\xa5", 1), (bytes(9), 1)):
         put(B + "/ram-file", full + more)
         r = run(s, "load", B + "/ram-file", "0x20000000", folder=folder)

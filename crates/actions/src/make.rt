@@ -1,5 +1,6 @@
 // new: a station is made, in two turns. The sizes are judged first; then the files are there, and the machine is reset.
 use forms::kinds::Fresh;
+use journal::SLOT;
 use session::answer::FILE_TROUBLE;
 use session::answer::MAKE;
 use session::answer::REFUSED;
@@ -38,7 +39,7 @@ fn noted(session: &mut [u64; 32], fresh: Fresh) {
     session[SECOND_TO] = bootstrap.to as u64;
     session[RAM_BYTES] = fresh.ram % 4097 * 4096;
     session[PAPER_BYTES] = fresh.paper;
-    session[JOURNAL_BYTES] = fresh.journal % 65537 * 256;
+    session[JOURNAL_BYTES] = fresh.journal % 32769 * SLOT as u64;
     session[INDEX_BYTES] = fresh.ram % 4097 * 16;
     session[SCALE] = fresh.scale;
     session[DELAY] = fresh.delay;

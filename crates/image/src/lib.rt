@@ -1,5 +1,8 @@
 // The state image's words at their places (document 01, "The state image"). An image of another length holds 0 everywhere.
-pub const WORDS: usize = 126;
+pub const WORDS: usize = 184;
+
+// The length word, the version, and the words.
+const BYTES: usize = 4 * WORDS + 5;
 
 pub const HI: usize = 31;
 
@@ -49,12 +52,16 @@ pub const ON_HAND: usize = 122;
 
 pub const NEXT_SLOT: usize = 123;
 
+pub const SLOT_FLAG: usize = 124;
+
+pub const BRANCH: usize = 125;
+
 // Word k behind the length word and the version.
 pub fn word(image: &[u8], k: usize) -> u64 {
     if WORDS <= k {
         return 0;
     }
-    if image.len() != 509 {
+    if image.len() != BYTES {
         return 0;
     }
     word::big::word_at(image, 4 * k + 5) as u64

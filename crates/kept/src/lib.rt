@@ -41,8 +41,8 @@ struct Overwritten {
 }
 
 fn parts(image: &[u8], journal: usize, steps: usize) -> Overwritten {
-    let at = image::word(image, image::NEXT_SLOT) as usize % 65536 * SLOT;
-    let all = steps % 65537 * SLOT;
+    let at = image::word(image, image::NEXT_SLOT) as usize % 32768 * SLOT;
+    let all = steps % 32769 * SLOT;
     if journal < at {
         return Overwritten {
             at: 0,

@@ -42,7 +42,7 @@ fn new(out: &mut [u8], at: usize) -> usize {
           Makes a station in this folder, and resets its machine.\n\
           ram        frames of 4,096 bytes, 1 to 4096 (64 if left out)\n\
           paper      bytes for 8 printers together, 0 to 65536, a multiple of 8 (8192)\n\
-          journal    how many steps can be taken back, 0 to 65536 (4096)\n",
+          journal    how many steps can be taken back, 0 to 32768 (4096)\n",
     );
     put(
         out,

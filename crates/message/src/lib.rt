@@ -107,7 +107,7 @@ fn numbered(out: &mut [u8], at: usize, row: u64, a: u64) -> usize {
         Refused (1): RAM is not 1 to 4,096 frames. Give ram 1 to 4096.\n|\
         Refused (2): a ROM is not 4 to 65,536 bytes in words. Give another file.\n|\
         Refused (3): paper is not 0 to 65,536 bytes, in eights. Give paper 8192.\n|\
-        Refused (4): the journal is over 65,536 steps. Give journal 0 to 65536.\n|\
+        Refused (4): the journal is over 32,768 steps. Give journal 0 to 32768.\n|\
         Refused (5): the state breaks a rule of the machine. Go back by restore.\n|\
         Refused (6): give scale 1 to 255, delay 1 to 65535, printers 0 to 255.\n|\
         Refused (7): so many steps are not on hand. info station says how many are.\n|\

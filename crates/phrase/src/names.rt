@@ -90,12 +90,13 @@ pub fn command(out: &mut [u8], at: usize, command: u64) -> usize {
 
 // `group` and `part` are rows.
 fn numbered_word(out: &mut [u8], at: usize, group: u64, number: u64, part: u64) -> usize {
-    let at = put_row(out, at, b"register |TLB entry |printer ", group);
+    let at = put_row(out, at, b"register |TLB entry |printer |disk ", group);
     let at = put_decimal(out, at, number);
     put_row(
         out,
         at,
-        b"| high| low| STATUS| COMMAND| DATA0| steps left| printed",
+        b"| high| low| STATUS| COMMAND| DATA0| steps left| printed|\
+        \x20STATUS| COMMAND| DATA0| DATA1| steps left| words left| cylinder",
         part,
     )
 }
@@ -108,7 +109,9 @@ fn row_of_word(k: u64) -> u64 {
         122 => 19,
         123 => 20,
         124 => 21,
-        _ => 22,
+        125 => 22,
+        126 => 23,
+        _ => 24,
     }
 }
 
@@ -119,7 +122,7 @@ fn single_word(out: &mut [u8], at: usize, k: u64) -> usize {
         b"HI|LO|PC|next PC|Index|Random|EntryHi|EntryLo|BadVAddr|Status|Cause|EPC|\
         clock high|clock low|timer|time scale|printer delay|printers installed|\
         printers pending|steps on hand|next slot|slot flag|\
-        branch address",
+        branch address|disks installed|disks pending",
         row_of_word(k),
     )
 }
@@ -130,6 +133,7 @@ pub fn image_word(out: &mut [u8], at: usize, k: u64) -> usize {
         0..=30 => numbered_word(out, at, 0, k + 1, 0),
         43..=74 => numbered_word(out, at, 1, (k - 43) / 2, (k - 43) % 2 + 1),
         81..=120 => numbered_word(out, at, 2, (k - 81) / 5, (k - 81) % 5 + 3),
+        127..=182 => numbered_word(out, at, 3, (k - 127) / 7, (k - 127) % 7 + 8),
         _ => single_word(out, at, k),
     }
 }

@@ -7,11 +7,6 @@ use crate::numbers::word_of;
 use state::IMAGE;
 use word::big::put_word;
 
-// The words behind those that have a name in the crate image.
-const SLOT_FLAG: usize = 124;
-
-const BRANCH: usize = 125;
-
 // A word of the image; nothing where there is no such word.
 fn set(image: &mut [u8], k: usize, value: u64) {
     if image::WORDS <= k {
@@ -27,8 +22,8 @@ fn set(image: &mut [u8], k: usize, value: u64) {
 fn jump(image: &mut [u8], value: u64) {
     set(image, image::PC, value);
     set(image, image::NEXT_PC, value % 0x1_0000_0000 + 4);
-    set(image, SLOT_FLAG, 0);
-    set(image, BRANCH, 0);
+    set(image, image::SLOT_FLAG, 0);
+    set(image, image::BRANCH, 0);
 }
 
 // Register n takes a value. One that it has changes nothing, so that a jump to PC keeps a slot. Answers whether something changed.

@@ -1,4 +1,5 @@
 // info station: how large everything is that the station has.
+use journal::SLOT;
 use phrase::template::eight;
 use phrase::template::fill_row;
 
@@ -19,7 +20,7 @@ fn sizes(image: &[u8], lengths: Lengths) -> [u64; 16] {
         lengths.ram as u64 / 4096,
         lengths.paper as u64,
         lengths.paper as u64 / 8,
-        lengths.journal as u64 / 256,
+        (lengths.journal / SLOT) as u64,
         image::word(image, image::ON_HAND),
     )
 }

@@ -2,4 +2,4 @@
 mod compare; // the call for C that compares two stations
 mod attached; // one turn of a session with gdb: the call for C
 mod technician; // one turn of a session of a technician: the call for C
-mod version; // the calls for C that convert a station of an earlier version
+mod version; // the call for C that converts the image of a station of the version before

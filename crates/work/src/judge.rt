@@ -2,10 +2,11 @@
 use answer::refused;
 use forms::kinds::Fresh;
 use session::work::Worked;
+use state::IMAGE;
 
 // What reset says of the three parameters.
 fn ranges(scale: u64, delay: u64, installed: u64) -> u64 {
-    let mut image = [0u8; 509];
+    let mut image = [0u8; IMAGE];
     let mut index = [0u8; 16];
     refused(reset::reset(&mut image, &mut index, scale, delay, installed))
 }
@@ -24,7 +25,7 @@ fn number(fresh: Fresh) -> u64 {
     if fresh.paper % 8 != 0 {
         return 3;
     }
-    if 65536 < fresh.journal {
+    if 32768 < fresh.journal {
         return 4;
     }
     ranges(fresh.scale, fresh.delay, fresh.printers)

@@ -1,6 +1,7 @@
 // load: a file's bytes are put into RAM. What the host writes is no step, so the journal is emptied, and with it the index.
 use reset::empty;
 use session::work::Worked;
+use state::IMAGE;
 use text::put;
 
 // Where the words steps on hand and next slot stand in the image.
@@ -41,7 +42,7 @@ pub fn load(
     index: &mut [u8],
     address: u64,
 ) -> Worked {
-    if image.len() != 509 {
+    if image.len() != IMAGE {
         return Worked::Refused(5);
     }
     if !fits(address, file.len(), ram.len()) {

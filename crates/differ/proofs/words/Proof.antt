@@ -7,10 +7,10 @@ use Rattle.differ.proofs.words.Statement.{statement}
 use Rattle.differ.proofs.words.Tie as tie
 
 abbrev Inv-loop : tie.InvT-loop
-Inv-loop out₀ at image other next₀ k₀ out next k = (k ≤ 126) × (length out ≡ length out₀)
+Inv-loop out₀ at image other next₀ k₀ out next k = (k ≤ 184) × (length out ≡ length out₀)
 
 abbrev μ-loop : tie.MeasureT-loop
-μ-loop out₀ at image other next₀ k₀ out next k = 126 - k
+μ-loop out₀ at image other next₀ k₀ out next k = 184 - k
 
 loop-holds : tie.Need-loop-holds Inv-loop μ-loop
 loop-holds c = search needs
