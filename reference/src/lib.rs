@@ -13,6 +13,7 @@ mod clock;
 mod convert;
 mod cp0;
 mod disk;
+pub mod diskless;
 mod exception;
 mod execute;
 mod geometry;
