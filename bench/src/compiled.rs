@@ -8,14 +8,16 @@ use crate::rounds::Case;
 use crate::sitting::sit;
 use crate::station::Station;
 use crate::tables::{self, number};
-use reference::{decode, reset, run_with_records, EXCEPTION, IMAGE_BYTES};
+use reference::diskless::{reset, run_with_records};
+use reference::layout::RECORD_BYTES;
+use reference::{decode, EXCEPTION, IMAGE_BYTES};
 use std::fs::read;
 use std::path::Path;
 use std::rc::Rc;
 
 const PROGRAMS: [&str; 6] = ["crc.O2", "sha.O2", "sieve.O2", "sort.O2", "matrix.O2", "import.O1"];
 const MODES: [Mode; 2] = [Mode::Plain, Mode::Paged];
-const SLOTS: [usize; 2] = [0, 65_536];
+const SLOTS: [usize; 2] = [0, 32_768];
 const ROUNDS: usize = 3;
 
 const SYSTEM_CALL: u32 = 8;
@@ -29,7 +31,7 @@ fn station(folder: &Path, name: &str, mode: Mode, slots: usize) -> Station {
     let (mut image, mut index) = (vec![0; IMAGE_BYTES], laid.index);
     reset(&mut image, &mut index, 1, 100, 0xFF);
     let roms = Rc::new([file("execution.rom"), file("bootstrap.rom")]);
-    let (ram, paper, journal) = (laid.ram, laid.paper, vec![1; 256 * slots]);
+    let (ram, paper, journal) = (laid.ram, laid.paper, vec![1; RECORD_BYTES * slots]);
     Station { image, roms, ram, paper, journal, index }
 }
 

@@ -48,6 +48,6 @@ pub fn table() {
             return;
         }
         let shown = figures.map(|figure| format!("{:>10.1}", figure.unwrap_or(0.0))).concat();
-        println!("{:<28}{shown}   with 0, 16 and 65,536 slots", kind.name());
+        println!("{:<28}{shown}   with 0, 16 and 32,768 slots", kind.name());
     }
 }

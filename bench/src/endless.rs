@@ -5,7 +5,7 @@ use crate::rounds::Case;
 use crate::sitting::{sit, Figures};
 use crate::tables;
 
-pub const SLOTS: [usize; 3] = [0, 16, 65_536];
+pub const SLOTS: [usize; 3] = [0, 16, 32_768];
 
 const STEPS: u64 = 1_000_000;
 const ROUNDS: usize = 4;
@@ -62,7 +62,7 @@ fn more(case: &Case, figures: &Figures, plain: Option<&Figures>) -> String {
             (figures.archive / plain.archive, figures.reference / plain.reference);
         format!("{archive:.2}  {reference:.2}")
     });
-    let filling = if case.slots < 65_536 {
+    let filling = if case.slots < 32_768 {
         String::new()
     } else {
         format!("{:>10.2}{:>12.2}", figures.filling, figures.to_filling)

@@ -32,7 +32,7 @@ fn show(what: &str, cases: &[Case], rounds: usize) {
 pub fn tables() {
     let what = "Flat in the steps: the memory loop, translated, in calls of at most 1,000,000";
     tables::head(what, "");
-    for slots in [16, 65_536] {
+    for slots in [16, 32_768] {
         let (short, long) = LENGTHS.split_at(4);
         let cases = |steps: &[u64]| -> Vec<Case> {
             steps.iter().map(|steps| of_length(*steps, slots)).collect()

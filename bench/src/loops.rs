@@ -1,7 +1,9 @@
 //! The programs that are timed: endless loops in RAM, without an exception.
 
 use crate::station::Station;
-use reference::{decode, encode, reset, Entry, Machine, Status, IMAGE_BYTES};
+use reference::diskless::reset;
+use reference::layout::RECORD_BYTES;
+use reference::{decode, encode, Entry, Machine, Status, IMAGE_BYTES};
 use std::rc::Rc;
 
 const RAM: u32 = 0x2000_0000;
@@ -63,7 +65,7 @@ impl Loop {
         for (place, word) in ram.chunks_exact_mut(4).zip(self.code) {
             place.copy_from_slice(&word.to_le_bytes());
         }
-        let (paper, journal) = (vec![1; 65_536], vec![1; 256 * slots]);
+        let (paper, journal) = (vec![1; 65_536], vec![1; RECORD_BYTES * slots]);
         let roms = Rc::new([vec![0; 256], vec![0; 256]]);
         Station { image, roms, ram, paper, journal, index }
     }

@@ -3,10 +3,10 @@
 use crate::archive;
 use crate::cpu_time;
 use crate::station::{Run, Station};
-use reference::{run_with_records, Answer, BUDGET_SPENT};
+use reference::diskless::run_with_records;
+use reference::layout::RECORD_BYTES;
+use reference::{Answer, BUDGET_SPENT};
 use std::hint::black_box;
-
-const RECORD_BYTES: usize = 256;
 
 /// The archive is side 0, the reference side 1.
 const SIDES: [Run; 2] = [archive::run, run_with_records];

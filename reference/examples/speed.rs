@@ -5,8 +5,10 @@
 
 use std::time::Instant;
 
+use reference::layout::RECORD_BYTES;
 use reference::{
-    decode, encode, reset, run, run_with_records, Answer, Entry, Status, BUDGET_SPENT, IMAGE_BYTES,
+    decode, encode, no_disks, reset, run, run_with_records, Answer, Entry, Status, BUDGET_SPENT,
+    IMAGE_BYTES,
 };
 
 /// What is lent besides ROMs and paper, which the loop has no need of.
@@ -23,12 +25,12 @@ type Run = fn(&mut Lent) -> Answer;
 
 fn without_records(lent: &mut Lent) -> Answer {
     let Lent { image, ram, journal, .. } = lent;
-    run(image, &ROM, &ROM, ram, &mut [], journal, BUDGET.into(), 1)
+    run(image, &ROM, &ROM, ram, &mut [], journal, no_disks(), BUDGET.into(), 1)
 }
 
 fn with_records(lent: &mut Lent) -> Answer {
     let Lent { image, ram, journal, index } = lent;
-    run_with_records(image, &ROM, &ROM, ram, &mut [], journal, index, BUDGET.into(), 1)
+    run_with_records(image, &ROM, &ROM, ram, &mut [], journal, index, no_disks(), BUDGET.into(), 1)
 }
 
 const RAM: u32 = 0x2000_0000;
@@ -51,7 +53,7 @@ const LOOP: [u32; 9] = [
 /// The machine before the loop's first step; with an entry, it is in use.
 fn machine_at_loop(entry: Option<Entry>) -> [u8; IMAGE_BYTES] {
     let mut image = [0; IMAGE_BYTES];
-    reset(&mut image, &mut [0; 16], 1, 1, 0);
+    reset(&mut image, &mut [0; 16], 1, 1, 0, 0, [0; 8]);
     let mut machine = decode(&image);
     machine.status = Status(if entry.is_some() { 0x0100_0000 } else { 0 });
     machine.pc = RAM;
@@ -68,7 +70,7 @@ fn steps_per_second(run: Run, slots: usize, entry: Option<Entry>) -> f64 {
         place.copy_from_slice(&word.to_le_bytes());
     }
     // Not 0, so that no page of the journal is met for the first time below.
-    let journal = vec![1; 256 * slots];
+    let journal = vec![1; RECORD_BYTES * slots];
     let mut lent = Lent { image: machine_at_loop(entry), ram, journal, index: [0; 16] };
     let start = Instant::now();
     for _ in 0..RUNS {
@@ -83,7 +85,7 @@ fn main() {
     let runs: [(&str, Run, usize); 3] = [
         ("no records", without_records, 64),
         ("records, 16 slots", with_records, 16),
-        ("records, 16 MiB", with_records, 65_536),
+        ("records, 16 MiB", with_records, 32_768),
     ];
     for (name, run, slots) in runs {
         for (translation, entry) in [("off", None), ("on, entry 15", Some(mapped))] {

@@ -5,33 +5,38 @@ use crate::answer::{Answer, BUDGET_SPENT, EXCEPTION, NO_REASON, TWO_MATCHES};
 use crate::exception::Exception;
 use crate::image::{decode, encode, IMAGE_BYTES};
 use crate::look::{look, Instruction};
-use crate::machine::Machine;
+use crate::machine::{Disk, Machine};
 use crate::memory::Memory;
 use crate::pages::Pages;
 use crate::printer::READY;
 use crate::record::{NoRecord, Recorder};
 use crate::rules::keeps_rules;
 use crate::sizes::{
-    any_index_fits, budget_fits, index_fits, installed_fits, journal_fits, paper_fits,
-    printer_delay_fits, ram_fits, record_slots, rom_fits, time_scale_fits, RECORD_BYTES,
+    any_index_fits, budget_fits, disks_fit, disks_parameters_fit, index_fits, installed_fits,
+    journal_fits, paper_fits, printer_delay_fits, ram_fits, record_slots, rom_fits,
+    time_scale_fits, RECORD_BYTES,
 };
 use crate::status::Status;
 use crate::step::take;
 use crate::word::{opcode, COP0};
 
+#[allow(clippy::too_many_arguments)]
 pub fn reset(
     image: &mut [u8],
     index: &mut [u8],
     time_scale: u64,
     printer_delay: u64,
     installed: u64,
+    disks: u64,
+    geometry: [u64; 8],
 ) -> Answer {
     if image.len() != IMAGE_BYTES {
         return Answer::refused(5);
     }
     if !(time_scale_fits(time_scale)
         && printer_delay_fits(printer_delay)
-        && installed_fits(installed))
+        && installed_fits(installed)
+        && disks_parameters_fit(disks, geometry))
     {
         return Answer::refused(6);
     }
@@ -47,11 +52,17 @@ pub fn reset(
         time_scale: time_scale as u32,
         printer_delay: printer_delay as u32,
         installed: installed as u32,
+        disks_installed: disks as u32,
         ..Machine::default()
     };
     for (number, printer) in machine.printers.iter_mut().enumerate() {
         if installed >> number & 1 != 0 {
             printer.status = READY;
+        }
+    }
+    for (number, disk) in machine.disks.iter_mut().enumerate() {
+        if disks >> number & 1 != 0 {
+            *disk = Disk { status: READY, data1: geometry[number] as u32, ..Disk::default() };
         }
     }
     encode(&machine, image);
@@ -69,10 +80,11 @@ pub fn run(
     ram: &mut [u8],
     paper: &mut [u8],
     journal: &mut [u8],
+    disks: [&mut [u8]; 8],
     budget: u64,
     stop_at_exceptions: u64,
 ) -> Answer {
-    let memory = Memory { execution_rom, bootstrap_rom, ram, paper };
+    let memory = Memory { execution_rom, bootstrap_rom, ram, paper, disks };
     run_recorded(image, memory, journal, budget, stop_at_exceptions, &mut NoRecord)
 }
 
@@ -177,12 +189,14 @@ fn run_refusal(
         3
     } else if !journal_fits(journal_len) {
         4
-    } else if !keeps_rules(image, memory.paper.len(), journal_len) {
+    } else if !keeps_rules(image, memory.ram.len(), memory.paper.len(), journal_len) {
         5
     } else if !budget_fits(budget) {
         6
     } else if index_len.map_or(false, |length| !index_fits(length, memory.ram.len())) {
         10
+    } else if !disks_fit(&decode(image), memory.disk_lengths()) {
+        13
     } else {
         0
     }

@@ -26,6 +26,7 @@ pub const BD: u32 = 1 << 31;
 pub const IP_FIELD: u32 = 0xFF00;
 pub const IP_SOFTWARE: u32 = 0x0300;
 pub const IP_TIMER: u32 = 1 << 10;
+pub const IP_DISKS: u32 = 1 << 11;
 pub const IP_PRINTERS: u32 = 1 << 14;
 
 const VECTOR: u32 = 0x80;

@@ -7,8 +7,9 @@ use std::rc::Rc;
 
 use crate::answer::{Answer, BUDGET_SPENT, NO_REASON};
 use crate::calls::run;
+use crate::give_back::Lengths;
 use crate::image::{decode, encode};
-use crate::sizes::{budget_fits, record_slots};
+use crate::sizes::{budget_fits, disks_fit, record_slots};
 use crate::take_back::take_back_refusal;
 
 struct Roms {
@@ -21,6 +22,7 @@ struct Checkpoint {
     image: Vec<u8>,
     ram: Vec<u8>,
     paper: Vec<u8>,
+    disks: [Vec<u8>; 8],
     journal_len: usize,
     roms: Rc<Roms>,
 }
@@ -50,6 +52,7 @@ impl History {
         ram: &mut [u8],
         paper: &mut [u8],
         journal: &mut [u8],
+        mut disks: [&mut [u8]; 8],
         budget: u64,
         stop_at_exceptions: u64,
     ) -> Answer {
@@ -64,6 +67,7 @@ impl History {
                 image: image.to_vec(),
                 ram: ram.to_vec(),
                 paper: paper.to_vec(),
+                disks: std::array::from_fn(|number| disks[number].to_vec()),
                 journal_len: journal.len(),
                 roms: Rc::clone(&roms),
             };
@@ -74,6 +78,7 @@ impl History {
                 ram,
                 paper,
                 journal,
+                disks.each_mut().map(|disk| &mut **disk),
                 part,
                 stop_at_exceptions,
             );
@@ -110,11 +115,21 @@ impl History {
         ram: &mut [u8],
         paper: &mut [u8],
         journal: &mut [u8],
+        mut disks: [&mut [u8]; 8],
         count: u64,
     ) -> Option<Answer> {
-        let refusal = take_back_refusal(image, ram.len(), paper.len(), journal.len(), count);
+        let lengths = Lengths {
+            ram: ram.len(),
+            paper: paper.len(),
+            journal: journal.len(),
+            disks: disks.each_ref().map(|disk| disk.len()),
+        };
+        let refusal = take_back_refusal(image, &lengths, count);
         if refusal != 0 {
             return Some(Answer::refused(refusal));
+        }
+        if !disks_fit(&decode(image), lengths.disks) {
+            return Some(Answer::refused(13));
         }
         if count == 0 {
             return Some(Answer::done(NO_REASON, 0));
@@ -129,6 +144,9 @@ impl History {
         let mut restored = checkpoint.image.clone();
         ram.copy_from_slice(&checkpoint.ram);
         paper.copy_from_slice(&checkpoint.paper);
+        for (disk, before) in disks.iter_mut().zip(&checkpoint.disks) {
+            disk.copy_from_slice(before);
+        }
         let replayed = run(
             &mut restored,
             &checkpoint.roms.execution,
@@ -136,6 +154,7 @@ impl History {
             ram,
             paper,
             journal,
+            disks,
             target - checkpoint.at,
             0,
         );

@@ -1,6 +1,6 @@
 //! The state image: big-endian, in the present version or the one before it.
 
-use crate::machine::{Entry, Machine, Printer};
+use crate::machine::{Disk, Entry, Machine, Printer};
 use crate::printer::BUSY;
 use crate::status::Status;
 
@@ -15,8 +15,8 @@ pub(crate) struct Form {
     words: usize,
 }
 
-pub(crate) const PRESENT: Form = Form { version: 2, words: 126 };
-pub(crate) const BEFORE: Form = Form { version: 1, words: 124 };
+pub(crate) const PRESENT: Form = Form { version: 3, words: 184 };
+pub(crate) const BEFORE: Form = Form { version: 2, words: 126 };
 
 pub const IMAGE_BYTES: usize = PRESENT.bytes();
 
@@ -63,8 +63,22 @@ pub fn decode(image: &[u8]) -> Machine {
     assert_eq!(image.len(), PRESENT.bytes());
     let mut from = Reader(image[FIRST_WORD..].chunks_exact(4));
     let mut machine = old_words(&mut from);
-    machine.slot_flag = from.word();
-    machine.branch_address = from.word();
+    machine.disks_installed = from.word();
+    for (number, disk) in machine.disks.iter_mut().enumerate() {
+        *disk = Disk {
+            status: from.word(),
+            command: from.word(),
+            data0: from.word(),
+            data1: from.word(),
+            ticks_left: from.word(),
+            words_left: from.word(),
+            cylinder: from.word(),
+        };
+        if disk.status == BUSY {
+            machine.disks_busy |= 1 << number;
+        }
+    }
+    machine.disks_pending = from.word();
     machine
 }
 
@@ -116,6 +130,8 @@ fn old_words(from: &mut Reader) -> Machine {
     machine.pending = from.word();
     machine.on_hand = from.word();
     machine.next_slot = from.word();
+    machine.slot_flag = from.word();
+    machine.branch_address = from.word();
     machine
 }
 
@@ -161,4 +177,15 @@ pub fn encode(machine: &Machine, image: &mut [u8]) {
     to.word(machine.next_slot);
     to.word(machine.slot_flag);
     to.word(machine.branch_address);
+    to.word(machine.disks_installed);
+    for disk in &machine.disks {
+        to.word(disk.status);
+        to.word(disk.command);
+        to.word(disk.data0);
+        to.word(disk.data1);
+        to.word(disk.ticks_left);
+        to.word(disk.words_left);
+        to.word(disk.cylinder);
+    }
+    to.word(machine.disks_pending);
 }

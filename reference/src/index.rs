@@ -5,6 +5,7 @@
 //! Any bytes may be lent as an index, and what is left in it follows from them.
 
 use crate::layout::*;
+use crate::places::{places, Place};
 use crate::sizes::{ENTRY_BYTES, FRAME_BYTES};
 
 /// The four bytes of each word of an entry, as it is written: 1, clock high, clock
@@ -38,19 +39,25 @@ fn named(entry: &Bytes) -> Option<u64> {
 /// record may be any bytes.
 #[inline]
 pub fn drop_oldest(index: &mut [u8], record: &Record, gone: u64) {
-    if word(record, KIND) != RAM_WORD {
-        return;
+    if some_disk_read(record) {
+        places(record).for_each(|place| drop_place(index, place.at, gone));
+    } else if word(record, KIND) == RAM_WORD {
+        drop_place(index, word(record, WHICH), gone);
     }
-    match entry(index, word(record, WHICH)) {
+}
+
+#[inline]
+fn drop_place(index: &mut [u8], place: u32, gone: u64) {
+    match entry(index, place) {
         Some(entry) if named(entry) == Some(gone) => *entry = bytes(None),
         _ => {}
     }
 }
 
-/// A step has just been taken, at `clock` behind its tick, with so many steps on
-/// hand below it. Where it stored to RAM, its record keeps how far back the step
-/// lies that changed the frame before, and the frame names this step, if the word
-/// is another one now.
+/// A step has just been taken while no disk was at work, at `clock` behind its
+/// tick, with so many steps on hand below it. Where it stored to RAM, its record
+/// keeps how far back the step lies that changed the frame before, and the frame
+/// names this step, if the word is another one now.
 #[inline]
 pub fn note_step(index: &mut [u8], record: &mut Record, ram: &[u8], clock: u64, below: u32) {
     if word(record, KIND) != RAM_WORD {
@@ -58,25 +65,53 @@ pub fn note_step(index: &mut [u8], record: &mut Record, ram: &[u8], clock: u64, 
     }
     let place = word(record, WHICH);
     let entry = entry(index, place).expect("each frame of RAM has an entry");
-    let distance = named(entry).map_or(0, |before| clock.wrapping_sub(before));
-    let kept = if distance <= below.into() { distance as u32 } else { 0 };
-    set_word(record, DISTANCE, kept);
+    set_word(record, DISTANCE, kept(entry, clock, below));
     if ram[place as usize..][..4] != word(record, OLD).to_le_bytes() {
         *entry = bytes(Some(clock));
+    }
+}
+
+/// The distance of an entry, before the step of `clock` is marked in it.
+#[inline]
+fn kept(entry: &Bytes, clock: u64, below: u32) -> u32 {
+    let distance = named(entry).map_or(0, |before| clock.wrapping_sub(before));
+    if distance <= below.into() {
+        distance as u32
+    } else {
+        0
+    }
+}
+
+/// The same with disks at work: every distance is kept before any frame is marked,
+/// so that two places in one frame have the same.
+#[cold]
+pub fn note_places(index: &mut [u8], record: &mut Record, ram: &[u8], clock: u64, below: u32) {
+    let mut found = places(record);
+    let all: [Option<Place>; 9] = std::array::from_fn(|_| found.next());
+    drop(found);
+    for place in all.iter().flatten() {
+        let entry = entry(index, place.at).expect("each frame of RAM has an entry");
+        place.keep_distance(record, kept(entry, clock, below));
+    }
+    for place in all.iter().flatten() {
+        if ram[place.at as usize..][..4] != place.old.to_le_bytes() {
+            *entry(index, place.at).expect("each frame of RAM has an entry") = bytes(Some(clock));
+        }
     }
 }
 
 /// The step of a well-formed record is about to be taken back, from `clock` and
 /// with so many steps on hand below it. A frame that names it names the step
 /// before again, if that one is still on hand.
+///
+/// A frame has one distance in every record that a step wrote. In another the first
+/// place of a frame counts: behind it the frame names this step no more.
 pub fn forget_step(index: &mut [u8], record: &Record, clock: u64, below: u32) {
-    if word(record, KIND) != RAM_WORD {
-        return;
-    }
-    let entry = entry(index, word(record, WHICH)).expect("each frame of RAM has an entry");
-    if named(entry) == Some(clock) {
-        let distance = word(record, DISTANCE);
-        let before = clock.wrapping_sub(distance.into());
-        *entry = bytes((1..=below).contains(&distance).then_some(before));
+    for place in places(record) {
+        let entry = entry(index, place.at).expect("each frame of RAM has an entry");
+        if named(entry) == Some(clock) {
+            let before = clock.wrapping_sub(place.distance.into());
+            *entry = bytes((1..=below).contains(&place.distance).then_some(before));
+        }
     }
 }

@@ -2,23 +2,28 @@
 
 use crate::answer::Answer;
 use crate::calls::{move_on, run_steps};
-use crate::index::{drop_oldest, note_step};
+use crate::index::{drop_oldest, note_places, note_step};
 use crate::layout::*;
 use crate::machine::{Entry, Machine};
 use crate::memory::Memory;
 use crate::record::{NoRecord, Recorder};
+use crate::record_disks::{before_transfers, note_disks, status_before};
 use crate::sizes::record_slots;
 use crate::step::take;
 
 /// The slot of the step that is being taken.
-struct RecordWriter<'a>(&'a mut Record);
+struct RecordWriter<'a> {
+    record: &'a mut Record,
+    /// Whether a disk was at work before the step.
+    disks: bool,
+}
 
 impl<'a> RecordWriter<'a> {
-    /// Writes all 64 words for a step that overwrites nothing else; what the
+    /// Writes all 128 words for a step that overwrites nothing else; what the
     /// step tells later is put over them. So every byte follows from the step,
     /// and none from what stood in the slot.
     #[inline]
-    fn start(record: &'a mut Record, machine: &Machine) -> RecordWriter<'a> {
+    fn start(record: &'a mut Record, machine: &Machine, memory: &Memory) -> RecordWriter<'a> {
         set_word(record, HI, machine.hi);
         set_word(record, LO, machine.lo);
         set_word(record, PC, machine.pc);
@@ -35,7 +40,7 @@ impl<'a> RecordWriter<'a> {
         set_word(record, BRANCH_ADDRESS, machine.branch_address);
         set_word(record, TIMER, machine.timer);
         set_word(record, PENDING, machine.pending);
-        for number in PRINTED..PRINTERS {
+        for number in (PRINTED..PRINTERS).chain(KIND..DISKS_PENDING) {
             set_word(record, number, 0);
         }
         for (number, printer) in machine.printers.iter().enumerate() {
@@ -46,15 +51,20 @@ impl<'a> RecordWriter<'a> {
             set_word(record, at + 3, printer.ticks_left);
             set_word(record, at + 4, printer.paper_count);
         }
-        set_word(record, UNUSED, 0);
-        RecordWriter(record)
+        set_word(record, DISKS_PENDING, machine.disks_pending);
+        record[4 * DISKS..].fill(0);
+        let disks = machine.disks_busy != 0;
+        if disks {
+            note_disks(record, machine, memory);
+        }
+        RecordWriter { record, disks }
     }
 
     #[inline]
     fn set_kind(&mut self, kind: u32, which: u32, old: u32) {
-        set_word(self.0, KIND, kind);
-        set_word(self.0, WHICH, which);
-        set_word(self.0, OLD, old);
+        set_word(self.record, KIND, kind);
+        set_word(self.record, WHICH, which);
+        set_word(self.record, OLD, old);
     }
 }
 
@@ -68,17 +78,23 @@ impl Recorder for RecordWriter<'_> {
     #[inline]
     fn tlb_row(&mut self, number: usize, old: Entry) {
         self.set_kind(TLB_ROW, number as u32, old.high);
-        set_word(self.0, OLD_LOW, old.low);
+        set_word(self.record, OLD_LOW, old.low);
     }
 
     #[inline]
     fn ram_word(&mut self, place: usize, old: u32) {
+        let old = if self.disks { before_transfers(self.record, place, old) } else { old };
         self.set_kind(RAM_WORD, place as u32, old);
     }
 
+    fn disk_word(&mut self, disk: usize, offset: u32, old: u32, status: u32) {
+        self.set_kind(DISK_WORD, offset, old);
+        set_word(self.record, OLD_STATUS, status_before(self.record, disk, status));
+    }
+
     fn paper_byte(&mut self, printer: usize, _place: usize, old: u8) {
-        set_word(self.0, PRINTED, word(self.0, PRINTED) | 1 << printer);
-        self.0[PAPER_BYTES + printer] = old;
+        set_word(self.record, PRINTED, word(self.record, PRINTED) | 1 << printer);
+        self.record[PAPER_BYTES + printer] = old;
     }
 }
 
@@ -86,7 +102,7 @@ impl Recorder for RecordWriter<'_> {
 fn slot(journal: &mut [u8], number: u32) -> &mut Record {
     let start = number as usize * RECORD_BYTES;
     let bytes = &mut journal[start..start + RECORD_BYTES];
-    bytes.try_into().expect("a slot is 256 bytes")
+    bytes.try_into().expect("a slot is 512 bytes")
 }
 
 /// `run`, and each step writes its record at next slot and moves the index on.
@@ -100,11 +116,12 @@ pub fn run_with_records(
     paper: &mut [u8],
     journal: &mut [u8],
     index: &mut [u8],
+    disks: [&mut [u8]; 8],
     budget: u64,
     stop_at_exceptions: u64,
 ) -> Answer {
     let slots = record_slots(journal.len()) as u32;
-    let memory = Memory { execution_rom, bootstrap_rom, ram, paper };
+    let memory = Memory { execution_rom, bootstrap_rom, ram, paper, disks };
     run_steps(
         image,
         memory,
@@ -122,8 +139,14 @@ pub fn run_with_records(
                 drop_oldest(index, record, machine.clock.wrapping_sub(most_below.into()));
             }
             let below = machine.on_hand.min(most_below);
-            let entered = take(machine, memory, &mut RecordWriter::start(record, machine), coming);
-            note_step(index, record, memory.ram, machine.clock, below);
+            let mut writer = RecordWriter::start(record, machine, memory);
+            let disks = writer.disks;
+            let entered = take(machine, memory, &mut writer, coming);
+            if disks {
+                note_places(index, record, memory.ram, machine.clock, below);
+            } else {
+                note_step(index, record, memory.ram, machine.clock, below);
+            }
             move_on(machine, slots);
             entered
         },

@@ -2,12 +2,13 @@
 //! tells of whole frames only, and may be any bytes: it is not looked at.
 
 use crate::answer::{Answer, NO_REASON};
+use crate::give_back::Lengths;
 use crate::image::decode;
-use crate::layout::*;
 use crate::machine::Machine;
 use crate::memory::RAM_BASE;
-use crate::sizes::index_fits;
-use crate::take_back::{newest_first, take_back_refusal, undone};
+use crate::places::places;
+use crate::sizes::{disks_fit, index_fits};
+use crate::take_back::{newest_first, take_back_refusal, well_formed};
 
 /// Clock high, clock low, old word, new word; all 0 where no step is found.
 pub const LAST_WRITE_BYTES: usize = 16;
@@ -21,22 +22,30 @@ struct Write {
 
 /// Tells the latest step on hand that altered the word at a physical address: as
 /// steps, how many have to be taken back to stand before it.
+#[allow(clippy::too_many_arguments)]
 pub fn last_write(
     image: &[u8],
     ram: &[u8],
     paper: &[u8],
     journal: &[u8],
     index: &[u8],
+    disks: [&[u8]; 8],
     address: u64,
     answer: &mut [u8],
 ) -> Answer {
+    let lengths = Lengths {
+        ram: ram.len(),
+        paper: paper.len(),
+        journal: journal.len(),
+        disks: disks.map(<[u8]>::len),
+    };
     // Without steps to take back row 7 can not arise.
-    let refusal = take_back_refusal(image, ram.len(), paper.len(), journal.len(), 0);
+    let refusal = take_back_refusal(image, &lengths, 0);
     if refusal != 0 {
         return Answer::refused(refusal);
     }
     let now = decode(image);
-    if undone(&now, ram.len(), paper.len(), journal, now.on_hand).is_none() {
+    if !well_formed(&now, &lengths, journal, now.on_hand) {
         return Answer::refused(8);
     }
     if !index_fits(index.len(), ram.len()) {
@@ -49,6 +58,9 @@ pub fn last_write(
     if answer.len() != LAST_WRITE_BYTES {
         return Answer::refused(12);
     }
+    if !disks_fit(&now, lengths.disks) {
+        return Answer::refused(13);
+    }
     let found = found(&now, ram, journal, place);
     answer.copy_from_slice(&found.as_ref().map_or([0; LAST_WRITE_BYTES], |it| told(&now, it)));
     Answer::done(NO_REASON, found.map_or(0, |write| write.steps))
@@ -60,14 +72,15 @@ fn place(address: u64, ram_len: usize) -> Option<usize> {
     (place < ram_len as u64 && place % 4 == 0).then_some(place as usize)
 }
 
-/// Goes back from the word that RAM holds now. A record of a store has the word
-/// before it, so that the two tell whether the store altered it.
+/// Goes back from the word that RAM holds now. A record has the word before its
+/// step, so that the two tell whether the step altered it. Where store and disks
+/// have one place and a record that no step has written gives them several words,
+/// the one given back last was there before.
 fn found(now: &Machine, ram: &[u8], journal: &[u8], place: usize) -> Option<Write> {
     let new = u32::from_le_bytes(ram[place..place + 4].try_into().expect("four bytes"));
     (1..).zip(newest_first(journal, now.next_slot, now.on_hand)).find_map(|(steps, record)| {
-        let stored = word(record, KIND) == RAM_WORD && word(record, WHICH) as usize == place;
-        let old = word(record, OLD);
-        (stored && old != new).then_some(Write { steps, old, new })
+        let old = places(record).filter(|it| it.at as usize == place).last()?.old;
+        (old != new).then_some(Write { steps, old, new })
     })
 }
 

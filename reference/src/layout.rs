@@ -1,6 +1,8 @@
-//! The layout of the record of a step: 64 words, least significant byte first.
-//! Numbers are those of words, if nothing else is said.
+//! The layout of the record of a step: 128 words, least significant byte first.
+//! Numbers are those of words, if nothing else is said. `layout_disks` has the
+//! part of the disks.
 
+pub use crate::layout_disks::*;
 pub use crate::sizes::RECORD_BYTES;
 
 pub type Record = [u8; RECORD_BYTES];
@@ -29,30 +31,35 @@ pub const PRINTED: usize = 16;
 /// The byte, not the word, at which the eight overwritten paper bytes start.
 pub const PAPER_BYTES: usize = 4 * 17;
 
+/// Eight printers of five words.
+pub const PRINTERS: usize = 19;
+pub const PRINTER_WORDS: usize = 5;
+
 /// What else was overwritten, and three words on it.
-pub const KIND: usize = 19;
-pub const WHICH: usize = 20;
-pub const OLD: usize = 21;
-pub const OLD_LOW: usize = 22;
+pub const KIND: usize = 59;
+pub const WHICH: usize = 60;
+pub const OLD: usize = 61;
+pub const OLD_LOW: usize = 62;
 
 /// Of a RAM word, in the place of OLD_LOW: how many steps before this one the
 /// step was that changed the word's frame last; 0 where none was on hand.
-pub const DISTANCE: usize = 22;
+pub const DISTANCE: usize = 62;
 
-/// No step on hand is further back than this.
+/// Of a disk's word, in the place of OLD_LOW: the disk's STATUS.
+pub const OLD_STATUS: usize = 62;
+
+/// The layout has room for no more; no step on hand is even half as far back.
 const MOST_DISTANCE: u32 = 65_535;
 
 pub const NOTHING: u32 = 0;
 pub const REGISTER: u32 = 1;
 pub const TLB_ROW: u32 = 2;
 pub const RAM_WORD: u32 = 3;
+pub const DISK_WORD: u32 = 4;
 
-/// Eight printers of five words.
-pub const PRINTERS: usize = 23;
-pub const PRINTER_WORDS: usize = 5;
-
-/// A word that holds nothing ends the record.
-pub const UNUSED: usize = 63;
+/// The words that hold nothing end the record.
+pub const UNUSED: usize = 100;
+pub const WORDS: usize = RECORD_BYTES / 4;
 
 #[inline]
 pub fn word(record: &Record, number: usize) -> u32 {
@@ -69,7 +76,10 @@ pub fn set_word(record: &mut Record, number: usize, value: u32) {
 /// Whether the bytes keep the layout; places and the image's rules are not
 /// part of it.
 pub fn keeps_layout(record: &Record) -> bool {
-    word(record, UNUSED) == 0 && kind_keeps_layout(record) && paper_keeps_layout(record)
+    record[4 * UNUSED..].iter().all(|byte| *byte == 0)
+        && kind_keeps_layout(record)
+        && paper_keeps_layout(record)
+        && disks_keep_layout(record)
 }
 
 fn kind_keeps_layout(record: &Record) -> bool {
@@ -79,6 +89,7 @@ fn kind_keeps_layout(record: &Record) -> bool {
         REGISTER => (1..=31).contains(&which) && old_low == 0,
         TLB_ROW => which <= 15,
         RAM_WORD => which % 4 == 0 && word(record, DISTANCE) <= MOST_DISTANCE,
+        DISK_WORD => disk_register(which).is_some(),
         _ => false,
     }
 }

@@ -1,4 +1,4 @@
-//! A plain emulator of the machine of document 01, with requests L2, L5 and L6
+//! A plain emulator of the machine of document 01, with requests L2, L4, L5 and L6
 //! of document 02, written from these papers, the manual and the MIPS I instruction
 //! set only. It is the yardstick for other emulators of the same machine, in
 //! results and in speed.
@@ -12,21 +12,28 @@ mod calls;
 mod clock;
 mod convert;
 mod cp0;
+mod disk;
+pub mod diskless;
 mod exception;
 mod execute;
+mod geometry;
+mod give_back;
 mod history;
 mod image;
 mod index;
 mod journal;
 mod last_write;
 pub mod layout;
+mod layout_disks;
 mod load_store;
 mod look;
 mod machine;
 mod memory;
 mod pages;
+mod places;
 mod printer;
 mod record;
+mod record_disks;
 mod rom;
 mod rules;
 mod sizes;
@@ -34,6 +41,8 @@ mod status;
 mod step;
 mod take_back;
 mod tlb;
+mod transfer;
+mod undo;
 mod word;
 
 pub use answer::{Answer, BUDGET_SPENT, EXCEPTION, NO_REASON, TWO_MATCHES};
@@ -44,8 +53,8 @@ pub use image::{decode, encode, IMAGE_BYTES, OLD_IMAGE_BYTES};
 pub use journal::run_with_records;
 pub use last_write::{last_write, LAST_WRITE_BYTES};
 pub use look::step_meets_two;
-pub use machine::{Entry, Machine, Printer};
-pub use memory::Memory;
+pub use machine::{Disk, Entry, Machine, Printer};
+pub use memory::{no_disks, Memory};
 pub use record::{NoRecord, Recorder};
 pub use rom::{rom_answer, rom_window};
 pub use rules::keeps_rules;

@@ -1,12 +1,14 @@
 //! The step to come, looked at before anything moves. A run stops before a step
 //! that meets two entries of the table that match (request L5).
 //!
-//! Parts 1 and 2 of a step move clocks, lines, printers and paper. A fetch and
-//! the address of a load or store look at none of these, so that each entry of
-//! the table is looked for once, here, and the step goes on with what was found.
+//! Parts 1 and 2 of a step move clocks, lines, printers, paper and words of disks.
+//! The address of a load or store looks at none of these, and a fetch only at a
+//! word that a disk reads into RAM, so that each entry of the table is looked for
+//! once, here, and the step goes on with what was found.
 
 use crate::address::{route, Access, Second, Stop};
-use crate::exception::{Exception, INTERRUPT, IP_PRINTERS, IP_TIMER};
+use crate::disk;
+use crate::exception::{Exception, INTERRUPT, IP_DISKS, IP_PRINTERS, IP_TIMER};
 use crate::machine::Machine;
 use crate::memory::Memory;
 use crate::pages::Pages;
@@ -37,9 +39,20 @@ pub fn look(
         return Err(Exception::plain(INTERRUPT).into());
     }
     let place = route(machine, pages, machine.pc, 4, Access::Fetch, second)?;
-    let word = memory.word(place).ok_or(Access::Fetch.bus_error())?;
+    let word = fetched(machine, memory, place).ok_or(Access::Fetch.bus_error())?;
     let place = load_or_store(machine, pages, word, second)?;
     Ok(Instruction { word, place })
+}
+
+/// The word as part 2 of the step will leave it.
+#[inline]
+fn fetched(machine: &Machine, memory: &Memory, place: u32) -> Option<u32> {
+    if machine.disks_busy != 0 {
+        if let Some(word) = disk::word_to_come(machine, memory, place) {
+            return Some(word);
+        }
+    }
+    memory.word(place)
 }
 
 /// Part 3, with the lines as parts 1 and 2 of the step will leave them.
@@ -53,7 +66,11 @@ fn ticked_cause(machine: &Machine) -> u32 {
     let timer = if machine.timer == 0 { IP_TIMER } else { 0 };
     let finishes =
         machine.busy != 0 && machine.printers.iter().any(|printer| printer.ticks_left == 1);
-    machine.cause | timer | if finishes { IP_PRINTERS } else { 0 }
+    let disk_finishes = machine.disks_busy != 0 && machine.disks.iter().any(disk::finishes);
+    machine.cause
+        | timer
+        | if finishes { IP_PRINTERS } else { 0 }
+        | if disk_finishes { IP_DISKS } else { 0 }
 }
 
 /// How a load (0x20 and on) or store (0x28 and on) has to be aligned; 0 for words

@@ -19,6 +19,18 @@ pub struct Printer {
     pub paper_count: u32,
 }
 
+#[derive(Clone, Copy, Debug, Default, PartialEq, Eq)]
+pub struct Disk {
+    pub status: u32,
+    pub command: u32,
+    pub data0: u32,
+    /// The geometry.
+    pub data1: u32,
+    pub ticks_left: u32,
+    pub words_left: u32,
+    pub cylinder: u32,
+}
+
 #[derive(Clone, Debug, Default, PartialEq, Eq)]
 pub struct Machine {
     /// Register 0 is held here as well and is always 0.
@@ -50,9 +62,14 @@ pub struct Machine {
     pub slot_flag: u32,
     /// The address of that branch or jump; 0 where the flag is 0.
     pub branch_address: u32,
+    pub disks_installed: u32,
+    pub disks: [Disk; 8],
+    pub disks_pending: u32,
     /// Bit n is on while printer n has STATUS 3. Follows from the printers and
     /// is no part of the image; it spares a step from looking at idle printers.
     pub(crate) busy: u32,
+    /// The same of the disks: 0 while no disk is at work.
+    pub(crate) disks_busy: u32,
 }
 
 impl Machine {

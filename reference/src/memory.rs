@@ -12,6 +12,12 @@ pub struct Memory<'a> {
     pub bootstrap_rom: &'a [u8],
     pub ram: &'a mut [u8],
     pub paper: &'a mut [u8],
+    pub disks: [&'a mut [u8]; 8],
+}
+
+/// What a machine without disks is lent for them.
+pub fn no_disks() -> [&'static mut [u8]; 8] {
+    [&mut [], &mut [], &mut [], &mut [], &mut [], &mut [], &mut [], &mut []]
 }
 
 fn word_at(bytes: &[u8], place: usize) -> Option<u32> {
@@ -26,6 +32,10 @@ pub fn ram_place(address: u32) -> usize {
 }
 
 impl Memory<'_> {
+    pub(crate) fn disk_lengths(&self) -> [usize; 8] {
+        std::array::from_fn(|number| self.disks[number].len())
+    }
+
     /// The aligned word of RAM or ROM that holds the byte at `address`, or
     /// None in the device area and where nothing is installed.
     #[inline]

@@ -6,8 +6,9 @@ use crate::machine::{Entry, Machine};
 /// step changes. The calls are monomorphised, so that a recorder which leaves
 /// a method empty pays nothing for it.
 ///
-/// A step makes at most one call of `register`, `tlb_row` and `ram_word`
-/// together, and none where it enters an exception.
+/// A step makes at most one call of `register`, `tlb_row`, `ram_word` and
+/// `disk_word` together, and none where it enters an exception. What the words of
+/// disks at work overwrite can be seen before the step, and is told by no call.
 pub trait Recorder {
     fn before_step(&mut self, _machine: &Machine) {}
 
@@ -19,8 +20,12 @@ pub trait Recorder {
     fn tlb_row(&mut self, _number: usize, _old: Entry) {}
 
     /// An aligned RAM word is about to be stored to; `place` counts from
-    /// RAM's start.
+    /// RAM's start. A disk may have read into it earlier in this step.
     fn ram_word(&mut self, _place: usize, _old: u32) {}
+
+    /// A store has landed on COMMAND or DATA0 of a disk, at this offset in the
+    /// device area. The disk's STATUS is that behind the step's tick.
+    fn disk_word(&mut self, _disk: usize, _offset: u32, _old: u32, _status: u32) {}
 
     /// A paper byte is about to be printed over. At most one for each of the
     /// eight printers in a step.

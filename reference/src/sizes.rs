@@ -1,6 +1,13 @@
-//! The ranges of rows 1 to 4, 6 and 10.
+//! The ranges of rows 1 to 4, 6, 10 and 13.
 
-pub const RECORD_BYTES: usize = 256;
+use crate::machine::Machine;
+
+pub const RECORD_BYTES: usize = 512;
+
+/// Of the records beside an image of the version before.
+const OLD_RECORD_BYTES: usize = 256;
+
+const MOST_JOURNAL_BYTES: usize = 16_777_216;
 
 pub const FRAME_BYTES: usize = 4_096;
 
@@ -22,7 +29,11 @@ pub fn paper_fits(length: usize) -> bool {
 }
 
 pub fn journal_fits(length: usize) -> bool {
-    length % RECORD_BYTES == 0 && length <= 16_777_216
+    length % RECORD_BYTES == 0 && length <= MOST_JOURNAL_BYTES
+}
+
+pub fn old_journal_fits(length: usize) -> bool {
+    length % OLD_RECORD_BYTES == 0 && length <= MOST_JOURNAL_BYTES
 }
 
 pub fn time_scale_fits(time_scale: u64) -> bool {
@@ -35,6 +46,15 @@ pub fn printer_delay_fits(printer_delay: u64) -> bool {
 
 pub fn installed_fits(installed: u64) -> bool {
     installed <= 255
+}
+
+/// A disk that is not in the map has no geometry.
+pub fn disks_parameters_fit(disks: u64, geometry: [u64; 8]) -> bool {
+    installed_fits(disks)
+        && (0..8).all(|number| {
+            let most = if disks >> number & 1 != 0 { u64::from(u32::MAX) } else { 0 };
+            geometry[number] <= most
+        })
 }
 
 pub fn budget_fits(budget: u64) -> bool {
@@ -51,6 +71,15 @@ pub fn any_index_fits(length: usize) -> bool {
     length % ENTRY_BYTES == 0 && (1..=MOST_FRAMES).contains(&(length / ENTRY_BYTES))
 }
 
+/// Row 13. A disk that is not installed has geometry 0, and so no bytes.
+pub fn disks_fit(machine: &Machine, lengths: [usize; 8]) -> bool {
+    machine.disks.iter().zip(lengths).all(|(disk, length)| length as u64 == disk.bytes())
+}
+
 pub fn record_slots(journal_len: usize) -> usize {
     journal_len / RECORD_BYTES
+}
+
+pub fn old_record_slots(journal_len: usize) -> usize {
+    journal_len / OLD_RECORD_BYTES
 }

@@ -2,6 +2,7 @@
 
 use crate::address::{Second, Stop};
 use crate::clock;
+use crate::disk;
 use crate::exception::{enter, Exception};
 use crate::execute::execute;
 use crate::look::{look, Instruction};
@@ -31,6 +32,9 @@ pub fn take<R: Recorder>(
     coming: Result<Instruction, Exception>,
 ) -> bool {
     clock::tick(machine);
+    if machine.disks_busy != 0 {
+        disk::tick(machine, memory);
+    }
     if machine.busy != 0 {
         printer::tick(machine, memory.paper, recorder);
     }

@@ -72,8 +72,8 @@ fn printer_two() {
 fn reset_state() {
     let image = reset_image();
     let machine = reference::decode(&image);
-    // Length word 505, version 2.
-    assert_eq!((image.len(), &image[..5]), (509, &[0, 0, 1, 0xF9, 2][..]));
+    // Length word 737, version 3.
+    assert_eq!((image.len(), &image[..5]), (741, &[0, 0, 2, 0xE1, 3][..]));
     assert_eq!((machine.pc, machine.next_pc), (0x1FC0_0000, 0x1FC0_0004));
     assert_eq!((machine.status.0, machine.random), (0x1040_0000, 0xF00));
     assert_eq!((machine.timer, machine.time_scale), (0xFFFF_FFFF, 1));

@@ -5,7 +5,7 @@ mod common;
 use common::asm::*;
 use common::dice::Dice;
 use common::*;
-use reference::{last_write, reset, Answer, IMAGE_BYTES};
+use reference::{last_write, no_disks, reset, Answer, IMAGE_BYTES};
 
 fn entry(clock: Option<u64>) -> Vec<u8> {
     let words = clock.map_or([0; 4], |clock| [1, (clock >> 32) as u32, clock as u32, 0]);
@@ -16,10 +16,15 @@ fn index(clocks: &[Option<u64>]) -> Vec<u8> {
     clocks.iter().flat_map(|clock| entry(*clock)).collect()
 }
 
+fn disks(bench: &Bench) -> [&[u8]; 8] {
+    bench.disks.each_ref().map(|disk| &disk[..])
+}
+
 fn ask(bench: &Bench, address: u64) -> (Answer, [u8; 16]) {
     let mut told = [0xEE; 16];
     let Bench { ram, paper, journal, index, .. } = bench;
-    let answer = last_write(&bench.image(), ram, paper, journal, index, address, &mut told);
+    let answer =
+        last_write(&bench.image(), ram, paper, journal, index, disks(bench), address, &mut told);
     (answer, told)
 }
 
@@ -66,8 +71,8 @@ fn each_step_moves_the_index() {
 fn the_step_before_is_named_again() {
     let mut bench = stores();
     assert_eq!(bench.run_records(4, 1), Answer::done(1, 4));
-    assert_eq!(bench.record(0)[88..92], 3u32.to_le_bytes());
-    assert_eq!(bench.record(2)[88..92], 1u32.to_le_bytes());
+    assert_eq!(bench.record(0)[248..252], 3u32.to_le_bytes());
+    assert_eq!(bench.record(2)[248..252], 1u32.to_le_bytes());
     assert_eq!(bench.take_back(1), Answer::done(0, 1));
     assert_eq!(bench.index, index(&[Some(u64::MAX), Some(1)]));
     assert_eq!(bench.take_back(2), Answer::done(0, 2));
@@ -79,7 +84,7 @@ fn the_step_before_is_named_again() {
 #[test]
 fn a_dropped_step_is_named_no_more() {
     let mut bench = stores();
-    bench.journal.truncate(2 * 256);
+    bench.journal.truncate(2 * 512);
     let mut expected = [Some(u64::MAX), Some(u64::MAX), None, Some(2)].iter();
     for _ in 0..4 {
         assert_eq!(bench.run_records(1, 1), Answer::done(1, 1));
@@ -116,8 +121,8 @@ fn the_first_word_alone_says_whether_a_step_is_named() {
             assert_eq!(bench.index[..16], met);
             assert_eq!(bench.run_records(1, 1), Answer::done(1, 1));
             assert_eq!(bench.index[..16], entry(Some(2)));
-            assert_eq!(bench.record(2)[88..92], u32::from(names).to_le_bytes());
-            assert_eq!(bench.record(0)[88..92], (3 * u32::from(names)).to_le_bytes());
+            assert_eq!(bench.record(2)[248..252], u32::from(names).to_le_bytes());
+            assert_eq!(bench.record(0)[248..252], (3 * u32::from(names)).to_le_bytes());
             assert_eq!(bench.take_back(1), Answer::done(0, 1));
             assert_eq!(bench.index[..16], entry(names.then_some(u64::MAX)));
 
@@ -132,7 +137,7 @@ fn the_first_word_alone_says_whether_a_step_is_named() {
 
             // Dropped.
             let mut bench = stores();
-            bench.journal.truncate(2 * 256);
+            bench.journal.truncate(2 * 512);
             assert_eq!(bench.run_records(2, 1), Answer::done(1, 2));
             bench.index[..16].copy_from_slice(&met);
             assert_eq!(bench.run_records(1, 1), Answer::done(1, 1));
@@ -178,7 +183,7 @@ fn addresses_and_answer_buffers() {
         let mut told = vec![0xEE; length];
         let Bench { ram, paper, journal, index, .. } = &bench;
         let answer = |address, told: &mut [u8]| {
-            last_write(&bench.image(), ram, paper, journal, index, address, told)
+            last_write(&bench.image(), ram, paper, journal, index, disks(&bench), address, told)
         };
         assert_eq!(answer(0x2000_0000, &mut told), Answer::refused(12));
         assert_eq!(answer(0x2000_0002, &mut told), Answer::refused(11));
@@ -213,7 +218,7 @@ fn the_rows_of_the_question() {
 fn index_lengths() {
     for (length, number) in [(0, 10), (15, 10), (16, 0), (17, 10), (65_536, 0), (65_552, 10)] {
         let (mut image, mut index) = (vec![0xEE; IMAGE_BYTES], vec![0xEE; length]);
-        assert_eq!(reset(&mut image, &mut index, 1, 1, 0).number, number);
+        assert_eq!(reset(&mut image, &mut index, 1, 1, 0, 0, [0; 8]).number, number);
         assert_eq!(index, vec![if number == 0 { 0 } else { 0xEE }; length]);
         assert_eq!(image == vec![0xEE; IMAGE_BYTES], number != 0);
     }
@@ -229,6 +234,7 @@ fn index_lengths() {
             &mut paper,
             &mut journal,
             &mut index,
+            no_disks(),
             budget,
             0,
         );
@@ -271,7 +277,7 @@ fn stores_at_random(dice: &mut Dice) -> Bench {
     code.extend([j(RAM), NOP]);
     let mut bench = Bench::with(&code);
     bench.machine.clock = dice.pick(&[0, u32::MAX]).into();
-    bench.journal.resize(256 * dice.pick(&[1, 2, 3, 17]) as usize, 7);
+    bench.journal.resize(512 * dice.pick(&[1, 2, 3, 17]) as usize, 7);
     bench
 }
 

@@ -5,7 +5,9 @@ mod common;
 use common::dice::Dice;
 use common::states::random_bench;
 use common::*;
-use reference::{Answer, BUDGET_SPENT, EXCEPTION, IMAGE_BYTES, OLD_IMAGE_BYTES, TWO_MATCHES};
+use reference::{
+    no_disks, Answer, BUDGET_SPENT, EXCEPTION, IMAGE_BYTES, OLD_IMAGE_BYTES, TWO_MATCHES,
+};
 
 const MACHINES: u32 = 4_000;
 const STEPS: u32 = 60;
@@ -90,7 +92,7 @@ fn budget_n_is_n_times_budget_one() {
 const RAMS: [(usize, bool); 4] = [(0, false), (4_095, false), (4_096, true), (8_192, true)];
 const ROMS: [(usize, bool); 5] = [(0, false), (4, true), (5, false), (512, true), (65_540, false)];
 const PAPERS: [(usize, bool); 4] = [(0, true), (12, false), (64, true), (65_544, false)];
-const JOURNALS: [(usize, bool); 4] = [(0, true), (128, false), (512, true), (768, true)];
+const JOURNALS: [(usize, bool); 4] = [(0, true), (256, false), (512, true), (1_024, true)];
 const IMAGES: [(usize, bool); 3] =
     [(OLD_IMAGE_BYTES, false), (IMAGE_BYTES, true), (IMAGE_BYTES, true)];
 const BUDGETS: [(u64, bool); 4] = [(0, true), (5, true), (1_000_001, false), (1 << 40, false)];
@@ -136,7 +138,17 @@ fn the_lowest_refusal_is_answered() {
         let before = buffers.clone();
         let [image, ram, paper, journal] = &mut buffers;
         let (execution, bootstrap) = (vec![0; execution], vec![0; bootstrap]);
-        let answer = reference::run(image, &execution, &bootstrap, ram, paper, journal, budget, 0);
+        let answer = reference::run(
+            image,
+            &execution,
+            &bootstrap,
+            ram,
+            paper,
+            journal,
+            no_disks(),
+            budget,
+            0,
+        );
         assert_eq!(answer.number, expected);
         if expected != 0 {
             assert_eq!(answer, Answer::refused(expected));

@@ -36,7 +36,10 @@ fn reading_67_rules_look_at_the_lent_lengths() {
 #[test]
 fn reading_68_reset_looks_at_the_length_only() {
     let mut image = vec![0xFF; IMAGE_BYTES];
-    assert_eq!(reset(&mut image, &mut [0xFF; 16], 1, DELAY.into(), 5), Answer::done(0, 0));
+    assert_eq!(
+        reset(&mut image, &mut [0xFF; 16], 1, DELAY.into(), 5, 0, [0; 8]),
+        Answer::done(0, 0)
+    );
     assert_eq!(image, reset_image());
 }
 
@@ -72,7 +75,7 @@ fn journal_place_moves_round() {
 #[test]
 fn reading_77_one_slot() {
     let mut bench = Bench::new();
-    bench.journal.truncate(256);
+    bench.journal.truncate(512);
     let bench = bench.run(3);
     assert_eq!((bench.machine.on_hand, bench.machine.next_slot), (1, 0));
 }
@@ -81,7 +84,7 @@ fn reading_77_one_slot() {
 fn reading_88_reset_empties_the_journal() {
     let mut image = Bench::new().run(3).image();
     assert_eq!(reference::decode(&image).on_hand, 3);
-    reset(&mut image, &mut [0; 16], 1, 1, 0);
+    reset(&mut image, &mut [0; 16], 1, 1, 0, 0, [0; 8]);
     let machine = reference::decode(&image);
     assert_eq!((machine.on_hand, machine.next_slot), (0, 0));
 }
@@ -140,8 +143,17 @@ fn reading_96_images_of_another_length() {
         let mut image = reset_image();
         image.resize(length, 0);
         let before = image.clone();
-        let answer =
-            reference::run(&mut image, &[0; 4], &[0; 4], &mut [0; 4096], &mut [], &mut [], 1, 0);
+        let answer = reference::run(
+            &mut image,
+            &[0; 4],
+            &[0; 4],
+            &mut [0; 4096],
+            &mut [],
+            &mut [],
+            reference::no_disks(),
+            1,
+            0,
+        );
         assert_eq!((answer, image), (Answer::refused(5), before));
     }
 }

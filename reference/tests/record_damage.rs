@@ -9,16 +9,17 @@ use common::*;
 /// Spoils the record in one of several ways.
 fn damage(dice: &mut Dice, record: &mut [u8], way: usize) {
     match way {
-        0 => record[dice.below(256) as usize] ^= 1 << dice.below(8),
-        1 => record[dice.below(256) as usize] = dice.word() as u8,
-        2 => put_words(record, 4 * dice.below(64) as usize, &[dice.word()]),
-        3 => put_words(record, 4 * dice.below(64) as usize, &[dice.below(40)]),
+        0 => record[dice.below(512) as usize] ^= 1 << dice.below(8),
+        1 => record[dice.below(512) as usize] = dice.word() as u8,
+        2 => put_words(record, 4 * dice.below(128) as usize, &[dice.word()]),
+        3 => put_words(record, 4 * dice.below(128) as usize, &[dice.below(40)]),
         4 => {
             for _ in 0..dice.below(4) {
-                record[64 + dice.below(16) as usize] = dice.pick(&[0, 1, 2, 3, 4, 8, 128]) as u8;
+                record[dice.pick(&[64, 236]) as usize + dice.below(12) as usize] =
+                    dice.pick(&[0, 1, 2, 3, 4, 8, 128]) as u8;
             }
         }
-        5 => record.rotate_left(4 + 4 * dice.below(63) as usize),
+        5 => record.rotate_left(4 + 4 * dice.below(127) as usize),
         _ => record.iter_mut().for_each(|byte| *byte = dice.word() as u8),
     }
 }

@@ -36,7 +36,7 @@ fn number_at(mut bench: Bench, age: u32, changes: &[Change]) -> u8 {
 fn expect(number: u8, changes: &[Change]) {
     for age in 0..3 {
         // The older records start as a step that overwrote nothing else.
-        let mut plain = vec![(19, 0), (20, 0), (21, 0)];
+        let mut plain = vec![(59, 0), (60, 0), (61, 0)];
         plain.extend(changes);
         assert_eq!(number_at(three_steps(), age, &plain), number, "{age} {changes:?}");
     }
@@ -53,9 +53,11 @@ fn all_fine(table: &[&[Change]]) {
 }
 
 #[test]
-fn word_63() {
+fn words_100_to_127() {
     expect(0, &[]);
-    all_bad(&[&[(63, 1)], &[(63, 1 << 8)], &[(63, 1 << 31)], &[(63, u32::MAX)]]);
+    for word in 100..128 {
+        all_bad(&[&[(word, 1)], &[(word, 1 << 8)], &[(word, 1 << 31)], &[(word, u32::MAX)]]);
+    }
 }
 
 #[test]
@@ -78,42 +80,43 @@ fn the_slot_flag_and_the_branch_address() {
 #[test]
 fn the_kind_and_its_words() {
     all_bad(&[
-        &[(19, 4)],
-        &[(19, 0x100)],
-        &[(19, u32::MAX)],
-        &[(20, 1)],
-        &[(21, 1)],
-        &[(22, 1)],
-        &[(19, 1), (20, 0)],
-        &[(19, 1), (20, 32)],
-        &[(19, 1), (20, 0x101)],
-        &[(19, 1), (20, 5), (22, 1)],
-        &[(19, 2), (20, 16)],
-        &[(19, 2), (20, u32::MAX)],
-        &[(19, 3), (20, 1)],
-        &[(19, 3), (20, 2)],
-        &[(19, 3), (20, 0x103)],
-        &[(19, 3), (20, 4), (22, 0x1_0000)],
-        &[(19, 3), (20, 4), (22, u32::MAX)],
+        &[(59, 5)],
+        &[(59, 4)],
+        &[(59, 0x100)],
+        &[(59, u32::MAX)],
+        &[(60, 1)],
+        &[(61, 1)],
+        &[(62, 1)],
+        &[(59, 1), (60, 0)],
+        &[(59, 1), (60, 32)],
+        &[(59, 1), (60, 0x101)],
+        &[(59, 1), (60, 5), (62, 1)],
+        &[(59, 2), (60, 16)],
+        &[(59, 2), (60, u32::MAX)],
+        &[(59, 3), (60, 1)],
+        &[(59, 3), (60, 2)],
+        &[(59, 3), (60, 0x103)],
+        &[(59, 3), (60, 4), (62, 0x1_0000)],
+        &[(59, 3), (60, 4), (62, u32::MAX)],
     ]);
     all_fine(&[
-        &[(19, 1), (20, 1)],
-        &[(19, 1), (20, 31), (21, u32::MAX)],
-        &[(19, 2)],
-        &[(19, 2), (20, 15), (21, 0xFFFF_FFC0), (22, 0xFFFF_FF00)],
-        &[(19, 3)],
-        &[(19, 3), (20, 0x1FFC), (21, u32::MAX)],
-        &[(19, 3), (20, 4), (22, 1)],
-        &[(19, 3), (20, 4), (22, 0xFFFF)],
+        &[(59, 1), (60, 1)],
+        &[(59, 1), (60, 31), (61, u32::MAX)],
+        &[(59, 2)],
+        &[(59, 2), (60, 15), (61, 0xFFFF_FFC0), (62, 0xFFFF_FF00)],
+        &[(59, 3)],
+        &[(59, 3), (60, 0x1FFC), (61, u32::MAX)],
+        &[(59, 3), (60, 4), (62, 1)],
+        &[(59, 3), (60, 4), (62, 0xFFFF)],
     ]);
 }
 
 #[test]
 fn ram_places() {
-    all_bad(&[&[(19, 3), (20, 0x2000)], &[(19, 3), (20, 0xFFFF_FFFC)]]);
+    all_bad(&[&[(59, 3), (60, 0x2000)], &[(59, 3), (60, 0xFFFF_FFFC)]]);
     // RAM lent shorter than at the run (reading 80).
     let mut shorter = three_steps();
-    put_words(shorter.record(0), 20 * 4, &[0x1000]);
+    put_words(shorter.record(0), 60 * 4, &[0x1000]);
     assert_eq!(shorter.clone().take_back(1).number, 0);
     shorter.ram.truncate(0x1000);
     assert_eq!(shorter.take_back(1).number, 8);
@@ -139,27 +142,27 @@ fn paper_places() {
         let mut bench = three_steps();
         bench.machine.installed = 0x85;
         bench.machine.printers[7].status = 1;
-        number_at(bench, 0, &[(16, 0x80), (58, 1), (62, count)])
+        number_at(bench, 0, &[(16, 0x80), (54, 1), (58, count)])
     };
     assert_eq!((with_printer_7(3), with_printer_7(4)), (0, 8));
     // Within the paper is enough: it is the next printer's first byte here.
     let mut bench = three_steps();
     put_words(bench.record(0), 16 * 4, &[4, 0x55 << 16]);
-    put_words(bench.record(0), 37 * 4, &[4]);
+    put_words(bench.record(0), 33 * 4, &[4]);
     assert_eq!(bench.take_back(1).number, 0);
     assert_eq!(bench.paper[12], 0x55);
     // Two bytes for one place: the lower printer's stands.
     let mut bench = three_steps();
     put_words(bench.record(0), 16 * 4, &[4 + 8, 0x6655 << 16]);
-    put_words(bench.record(0), 37 * 4, &[4]);
+    put_words(bench.record(0), 33 * 4, &[4]);
     assert_eq!(bench.take_back(1).number, 0);
     assert_eq!(bench.paper[12], 0x55);
     // Without paper no printer has a place.
     let mut bench = three_steps();
     bench.paper.clear();
     bench.machine.printers[2].paper_count = 0;
-    assert_eq!(number_at(bench.clone(), 0, &[(37, 0)]), 0);
-    assert_eq!(number_at(bench, 0, &[(37, 0), (16, 1)]), 8);
+    assert_eq!(number_at(bench.clone(), 0, &[(33, 0)]), 0);
+    assert_eq!(number_at(bench, 0, &[(33, 0), (16, 1)]), 8);
 }
 
 #[test]
@@ -185,31 +188,31 @@ fn the_image_given_back_keeps_the_rules() {
         &[(15, 1)],
         &[(15, 2), (10, 0x4000)],
         &[(15, 4), (10, 0x4000)],
-        &[(19, 2), (21, 1)],
-        &[(19, 2), (22, 1)],
-        &[(23, 0)],
+        &[(59, 2), (61, 1)],
+        &[(59, 2), (62, 1)],
+        &[(19, 0)],
+        &[(19, 5)],
+        &[(22, 1)],
         &[(23, 5)],
+        &[(24, 1)],
+        &[(25, 1)],
         &[(26, 1)],
-        &[(27, 5)],
+        &[(27, 1)],
         &[(28, 1)],
-        &[(29, 1)],
         &[(30, 1)],
-        &[(31, 1)],
-        &[(32, 1)],
-        &[(34, 1)],
-        &[(36, 0)],
-        &[(36, 10)],
-        &[(37, 5)],
-        &[(33, 1)],
+        &[(32, 0)],
+        &[(32, 10)],
+        &[(33, 5)],
+        &[(29, 1)],
     ]);
     all_fine(&[
         &[(0, 1), (1, 2), (2, 3), (3, 5), (8, 1), (11, 3), (14, 9)],
         &[(4, 0x8000_3F00), (5, 0x100), (6, 0xFFFF_FFC0), (7, 0xFFFF_FF00)],
         &[(9, 0x1740_FF3F), (10, 0xB000_0730)],
         &[(10, 0x4000), (15, 1)],
-        &[(23, 4), (24, 99), (25, 99), (27, 4)],
-        &[(33, 3), (34, 0), (36, 9), (37, 4)],
-        &[(33, 2), (36, 0)],
+        &[(19, 4), (20, 99), (21, 99), (23, 4)],
+        &[(29, 3), (30, 0), (32, 9), (33, 4)],
+        &[(29, 2), (32, 0)],
     ]);
 }
 
@@ -229,7 +232,7 @@ fn each_record_is_judged_in_turn() {
 fn a_record_of_another_step_is_well_formed() {
     let mut bench = three_steps();
     bench.machine.registers[7] = 7;
-    put_words(bench.record(0), 19 * 4, &[1, 7, 0xAAAA]);
+    put_words(bench.record(0), 59 * 4, &[1, 7, 0xAAAA]);
     let clock = bench.machine.clock;
     assert_eq!(bench.take_back(1), Answer::done(0, 1));
     assert_eq!((bench.reg(7), bench.machine.clock), (0xAAAA, clock - 1));

@@ -24,7 +24,7 @@ fn with_bytes(bytes: &[(usize, u32, u8)]) -> Bench {
     for &(number, count, byte) in bytes {
         record[64] |= 1 << number;
         record[68 + number] = byte;
-        put_words(record, 4 * (23 + 5 * number + 4), &[count]);
+        put_words(record, 4 * (19 + 5 * number + 4), &[count]);
     }
     bench
 }
@@ -89,7 +89,7 @@ fn the_bit_of_a_printer_that_is_not_installed() {
     bench.machine.installed = 0xF7;
     bench.machine.printers[3] = Default::default();
     let record = bench.record(0);
-    put_words(record, 4 * (23 + 5 * 3), &[0; 5]);
+    put_words(record, 4 * (19 + 5 * 3), &[0; 5]);
     record[64] = 8;
     record[71] = 0x33;
     assert_eq!(taken_back(bench), paper_but_for(&[(12, 0x33)]));

@@ -29,9 +29,9 @@ fn take_back_answers_the_lowest_number() {
         bench.run_records(4, 0);
         let (ram, ram_fits) = length(&mut dice, 0x2000, &[0, 1, 4_095, 8_196, 16_781_312]);
         let (paper, paper_fits) = length(&mut dice, 32, &[4, 33, 65_544]);
-        let (journal, journal_fits) = length(&mut dice, 4 * 256, &[1, 255, 1_025, 16_777_472]);
+        let (journal, journal_fits) = length(&mut dice, 4 * 512, &[1, 256, 2_049, 16_777_728]);
         let (image_len, image_fits) =
-            length(&mut dice, IMAGE_BYTES, &[0, OLD_IMAGE_BYTES as u32, 508, 510]);
+            length(&mut dice, IMAGE_BYTES, &[0, OLD_IMAGE_BYTES as u32, 740, 742]);
         let mut steps = u64::from(dice.below(5));
         let count_fits = !dice.chance(6);
         if !count_fits {
@@ -41,7 +41,7 @@ fn take_back_answers_the_lowest_number() {
         let bad_record = dice.below(4);
         let record_fits = !dice.chance(3);
         if !record_fits {
-            bench.record(bad_record)[255] = 1;
+            bench.record(bad_record)[511] = 1;
         }
         let mut image = bench.image();
         if broken {
@@ -66,7 +66,8 @@ fn take_back_answers_the_lowest_number() {
         bench.index.resize(index, 7);
         let before = (image.clone(), bench.clone());
         let (ram, paper, journal) = (&mut bench.ram, &mut bench.paper, &bench.journal);
-        let answer = reference::take_back(&mut image, ram, paper, journal, &mut bench.index, steps);
+        let (index, disks) = (&mut bench.index, lend(&mut bench.disks));
+        let answer = reference::take_back(&mut image, ram, paper, journal, index, disks, steps);
         if expected == 0 {
             assert_eq!(answer, Answer::done(0, steps as u32));
             assert_eq!(image == before.0, steps == 0);

@@ -39,8 +39,8 @@ fn marked(instruction: u32) -> Bench {
 }
 
 /// What the record of a step of `marked` holds where nothing else is told.
-fn marked_words() -> [u32; 64] {
-    let mut words = [0; 64];
+fn marked_words() -> [u32; 128] {
+    let mut words = [0; 128];
     words[..16].copy_from_slice(&[
         0x0101_0001,
         0x0202_0002,
@@ -59,12 +59,12 @@ fn marked_words() -> [u32; 64] {
         0x7777_000C,
         0x0000_0004,
     ]);
-    words[23..28].copy_from_slice(&[3, 2, 0x5A5A_0041, 3, 1]);
-    words[33..38].copy_from_slice(&[4, 9, 0x6B6B_0042, 0, 4]);
+    words[19..24].copy_from_slice(&[3, 2, 0x5A5A_0041, 3, 1]);
+    words[29..34].copy_from_slice(&[4, 9, 0x6B6B_0042, 0, 4]);
     words
 }
 
-/// Takes the step, compares all 64 words with the marked ones and these
+/// Takes the step, compares all 128 words with the marked ones and these
 /// others, and takes it back.
 fn holds(mut bench: Bench, reason: u8, others: &[(usize, u32)]) {
     let before = bench.clone();
@@ -74,9 +74,9 @@ fn holds(mut bench: Bench, reason: u8, others: &[(usize, u32)]) {
     for &(number, value) in others {
         expected[number] = value;
     }
-    let mut bytes = vec![0; 256];
+    let mut bytes = vec![0; 512];
     put_words(&mut bytes, 0, &expected);
-    bytes.resize(4 * 256, 0xC5);
+    bytes.resize(4 * 512, 0xC5);
     for (number, word) in bench.journal.chunks_exact(4).enumerate() {
         assert_eq!(word, &bytes[number * 4..][..4], "word {number}");
     }
@@ -102,13 +102,13 @@ fn nothing_else() {
 fn a_register() {
     let links = [bcond(16, 0, 4), bcond(17, 0, 4), jal(RAM + 0x40), jalr(31, 9)];
     for word in links {
-        holds(marked(word), RUNS, &[(19, 1), (20, 31), (21, 0x3131_3131)]);
+        holds(marked(word), RUNS, &[(59, 1), (60, 31), (61, 0x3131_3131)]);
     }
     // The last writes the value that is there: overwritten all the same.
     let writes =
         [addiu(4, 0, 5), mfc0(4, CAUSE), lw(4, 0x100, 9), special(16, 0, 0, 4), addiu(4, 4, 0)];
     for word in writes {
-        holds(marked(word), RUNS, &[(19, 1), (20, 4), (21, 0x4444_0001)]);
+        holds(marked(word), RUNS, &[(59, 1), (60, 4), (61, 0x4444_0001)]);
     }
     // Register 0 is never overwritten.
     for word in [NOP, addiu(0, 4, 5), lw(0, 0x100, 9), mfc0(0, CAUSE), jalr(0, 9)] {
@@ -119,24 +119,24 @@ fn a_register() {
 #[test]
 fn a_device_load() {
     for offset in [TIMER, printer(0), printer(2) + 8, 0x1C] {
-        holds(marked(lw(4, offset, 8)), RUNS, &[(19, 1), (20, 4), (21, 0x4444_0001)]);
+        holds(marked(lw(4, offset, 8)), RUNS, &[(59, 1), (60, 4), (61, 0x4444_0001)]);
     }
 }
 
 #[test]
 fn a_row_of_the_table() {
-    holds(marked(TLBWI), RUNS, &[(19, 2), (20, 5), (21, 0xF000_5040), (22, 0xE000_5200)]);
+    holds(marked(TLBWI), RUNS, &[(59, 2), (60, 5), (61, 0xF000_5040), (62, 0xE000_5200)]);
     // Random has moved on when the row is chosen; the record has it before.
-    holds(marked(TLBWR), RUNS, &[(19, 2), (20, 6), (21, 0xF000_6040), (22, 0xE000_6200)]);
+    holds(marked(TLBWR), RUNS, &[(59, 2), (60, 6), (61, 0xF000_6040), (62, 0xE000_6200)]);
     let mut first = marked(TLBWI);
     first.machine.index = 0;
     first.machine.tlb[0] = Entry::default();
-    holds(first, RUNS, &[(4, 0), (19, 2)]);
+    holds(first, RUNS, &[(4, 0), (59, 2)]);
 }
 
 #[test]
 fn a_word_of_ram() {
-    let whole = [(19, 3), (20, 0x100), (21, 0x4433_2211)];
+    let whole = [(59, 3), (60, 0x100), (61, 0x4433_2211)];
     holds(marked(sw(4, 0x100, 9)), RUNS, &whole);
     holds(marked(sw(4, 0x100, 9)).register(4, 0x4433_2211), RUNS, &whole);
     for (opcode, step) in [(0x28, 1), (0x29, 2), (0x2A, 1), (0x2E, 1)] {
@@ -144,10 +144,10 @@ fn a_word_of_ram() {
             holds(marked(immediate(opcode, 9, 4, place)), RUNS, &whole);
         }
     }
-    holds(marked(immediate(0x28, 9, 4, 0x1FFF)), RUNS, &[(19, 3), (20, 0x1FFC)]);
+    holds(marked(immediate(0x28, 9, 4, 0x1FFF)), RUNS, &[(59, 3), (60, 0x1FFC)]);
     // The first word of RAM is the instruction itself.
     let own = sw(4, 0, 9);
-    holds(marked(own), RUNS, &[(19, 3), (21, own)]);
+    holds(marked(own), RUNS, &[(59, 3), (61, own)]);
 }
 
 #[test]
@@ -180,16 +180,16 @@ fn an_interrupt() {
 fn paper() {
     let mut bench = marked(sw(4, 0x100, 9));
     bench.machine.printers[0].ticks_left = 1;
-    let byte = [(16, 1), (17, 0x81), (26, 1)];
-    let word = [(19, 3), (20, 0x100), (21, 0x4433_2211)];
+    let byte = [(16, 1), (17, 0x81), (22, 1)];
+    let word = [(59, 3), (60, 0x100), (61, 0x4433_2211)];
     holds(bench.clone(), RUNS, &[&byte[..], &word].concat());
     let masked = (9, KERNEL | 0x4001);
     holds(bench.clone().status(masked.1), ENTERS, &[&byte[..], &[masked]].concat());
     // A full eighth, a RESET: no byte is overwritten.
     bench.machine.printers[0].paper_count = 4;
-    holds(bench.clone(), RUNS, &[&[(26, 1), (27, 4)], &word[..]].concat());
+    holds(bench.clone(), RUNS, &[&[(22, 1), (23, 4)], &word[..]].concat());
     bench.machine.printers[0] = Printer { command: 0, paper_count: 1, ..bench.machine.printers[0] };
-    holds(bench, RUNS, &[&[(24, 0), (26, 1)], &word[..]].concat());
+    holds(bench, RUNS, &[&[(20, 0), (22, 1)], &word[..]].concat());
 }
 
 #[test]
@@ -205,8 +205,8 @@ fn all_eight_printers_at_once() {
         *printer = Printer { status: 3, command: 2, data0, ticks_left: 1, paper_count };
         let words = [3, 2, data0, 1, paper_count];
         others
-            .extend(words.iter().enumerate().map(|(word, &value)| (23 + 5 * number + word, value)));
+            .extend(words.iter().enumerate().map(|(word, &value)| (19 + 5 * number + word, value)));
     }
-    others.extend([(19, 2), (20, 5), (21, 0xF000_5040), (22, 0xE000_5200)]);
+    others.extend([(59, 2), (60, 5), (61, 0xF000_5040), (62, 0xE000_5200)]);
     holds(bench, RUNS, &others);
 }

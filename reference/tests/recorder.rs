@@ -3,8 +3,8 @@
 mod common;
 
 use common::dice::Dice;
-use common::put_words;
 use common::states::random_bench;
+use common::{lend, put_words};
 use reference::{encode, run_recorded, Machine, Memory, Recorder, IMAGE_BYTES, TWO_MATCHES};
 
 #[derive(Default)]
@@ -30,7 +30,7 @@ impl Recorder for Undo {
 
     fn after_step(&mut self, _machine: &Machine, record: Option<&mut [u8]>) {
         if let Some(record) = record {
-            assert_eq!(record.len(), 256);
+            assert_eq!(record.len(), 512);
             record.fill(0xC5);
             self.records += 1;
         }
@@ -64,6 +64,7 @@ fn reading_86_every_step_can_be_undone() {
                 bootstrap_rom: &bench.bootstrap,
                 ram: &mut bench.ram,
                 paper: &mut bench.paper,
+                disks: lend(&mut bench.disks),
             };
             let answer = run_recorded(&mut image, memory, &mut bench.journal, 1, 0, &mut undo);
             assert_eq!(answer.number, 0);
@@ -72,10 +73,10 @@ fn reading_86_every_step_can_be_undone() {
                 break;
             }
 
-            let slot = before.machine.next_slot as usize * 256;
+            let slot = before.machine.next_slot as usize * 512;
             let mut journal = before.journal.clone();
             if undo.records == 1 {
-                journal[slot..slot + 256].fill(0xC5);
+                journal[slot..slot + 512].fill(0xC5);
             }
             assert!(bench.journal == journal && undo.records == journal.len().min(1));
 

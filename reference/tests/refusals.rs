@@ -3,7 +3,7 @@
 mod common;
 
 use common::*;
-use reference::{reset, rom_answer, rom_window, Answer, History, IMAGE_BYTES};
+use reference::{no_disks, reset, rom_answer, rom_window, Answer, History, IMAGE_BYTES};
 
 const REFUSED_STEPS: (u8, u32) = (0, 0);
 
@@ -48,7 +48,8 @@ fn row_3_paper_and_row_4_journal() {
     for (length, number) in [(0, 0), (7, 3), (8, 0), (65_536, 0), (65_544, 3)] {
         assert_eq!(run_number(4096, FINE, length, 0, 0), number);
     }
-    for (length, number) in [(0, 0), (255, 4), (256, 0), (16_777_216, 0), (16_777_472, 4)] {
+    for (length, number) in [(0, 0), (511, 4), (256, 4), (512, 0), (16_777_216, 0), (16_777_728, 4)]
+    {
         assert_eq!(run_number(4096, FINE, 0, length, 0), number);
     }
 }
@@ -67,8 +68,17 @@ fn lowest_number_of_run() {
     assert_eq!(run_number(4096, FINE, 1, 1, u64::MAX), 3);
     assert_eq!(run_number(4096, FINE, 0, 1, u64::MAX), 4);
     let mut short = vec![7; IMAGE_BYTES - 1];
-    let answer =
-        reference::run(&mut short, &[0; 4], &[0; 4], &mut [0; 4096], &mut [], &mut [], u64::MAX, 1);
+    let answer = reference::run(
+        &mut short,
+        &[0; 4],
+        &[0; 4],
+        &mut [0; 4096],
+        &mut [],
+        &mut [],
+        no_disks(),
+        u64::MAX,
+        1,
+    );
     assert_eq!((answer, short), (Answer::refused(5), vec![7; IMAGE_BYTES - 1]));
 }
 
@@ -76,7 +86,7 @@ fn lowest_number_of_run() {
 fn reset_rows_5_and_6() {
     for length in [0, IMAGE_BYTES - 1, IMAGE_BYTES + 1] {
         let (mut image, mut index) = (vec![3; length], [3; 17]);
-        assert_eq!(reset(&mut image, &mut index, 0, 0, 256), Answer::refused(5));
+        assert_eq!(reset(&mut image, &mut index, 0, 0, 256, 0, [0; 8]), Answer::refused(5));
         assert_eq!((image, index), (vec![3; length], [3; 17]));
     }
     let wide = (1 << 32) + 1;
@@ -93,7 +103,7 @@ fn reset_rows_5_and_6() {
         (1, 1, 1 << 32, 6),
     ] {
         let (mut image, mut index) = (vec![0xEE; IMAGE_BYTES], [0xEE; 32]);
-        let answer = reset(&mut image, &mut index, scale, delay, installed);
+        let answer = reset(&mut image, &mut index, scale, delay, installed, 0, [0; 8]);
         assert_eq!(answer, Answer { number, reason: 0, steps: 0 });
         assert_eq!(image == vec![0xEE; IMAGE_BYTES], number != 0);
         assert_eq!(index, if number == 0 { [0; 32] } else { [0xEE; 32] });
@@ -108,7 +118,8 @@ fn take_back_rows() {
         let before = image.clone();
         let mut buffers = [vec![1; ram], vec![1; paper], vec![1; journal]];
         let [ram, paper, journal] = &mut buffers;
-        let answer = History::new(1).take_back(&mut image, ram, paper, journal, count).unwrap();
+        let answer =
+            History::new(1).take_back(&mut image, ram, paper, journal, no_disks(), count).unwrap();
         assert_eq!((answer.reason, answer.steps), REFUSED_STEPS);
         assert_eq!(image, before);
         assert!(buffers.iter().flatten().all(|&byte| byte == 1));

@@ -12,7 +12,7 @@ const SLOTS: u32 = 4;
 fn keeps(change: impl Fn(&mut Machine)) -> bool {
     let mut bench = Bench::new();
     change(&mut bench.machine);
-    let kept = keeps_rules(&bench.image(), bench.paper.len(), bench.journal.len());
+    let kept = keeps_rules(&bench.image(), bench.ram.len(), bench.paper.len(), bench.journal.len());
     let before = bench.clone();
     let answer = bench.run_with(0, 0);
     assert_eq!(answer.number, if kept { 0 } else { 5 });
@@ -57,12 +57,12 @@ fn head_of_the_image() {
         for bit in 0..8 {
             let mut image = good.clone();
             image[place] ^= 1 << bit;
-            assert!(!keeps_rules(&image, 32, 0));
+            assert!(!keeps_rules(&image, 4096, 32, 0));
         }
     }
-    assert!(keeps_rules(&good, 0, 0));
-    assert!(!keeps_rules(&good[..good.len() - 1], 0, 0));
-    assert!(!keeps_rules(&good[..OLD_IMAGE_BYTES], 0, 0));
+    assert!(keeps_rules(&good, 4096, 0, 0));
+    assert!(!keeps_rules(&good[..good.len() - 1], 4096, 0, 0));
+    assert!(!keeps_rules(&good[..OLD_IMAGE_BYTES], 4096, 0, 0));
 }
 
 #[test]
@@ -188,8 +188,8 @@ fn reading_87_journal_place() {
         }
     }
     let mut bench = Bench::new();
-    assert!(keeps_rules(&bench.image(), 32, 0));
+    assert!(keeps_rules(&bench.image(), 4096, 32, 0));
     bench.machine.next_slot = 1;
-    assert!(!keeps_rules(&bench.image(), 32, 0));
-    assert!(!keeps_rules(&bench.image(), 32, 256));
+    assert!(!keeps_rules(&bench.image(), 4096, 32, 0));
+    assert!(!keeps_rules(&bench.image(), 4096, 32, 512));
 }

@@ -29,6 +29,7 @@ impl Remembered {
             &mut bench.ram,
             &mut bench.paper,
             &mut bench.journal,
+            lend(&mut bench.disks),
             budget,
             stop,
         );
@@ -40,7 +41,8 @@ impl Remembered {
         let mut image = self.bench.image();
         let bench = &mut self.bench;
         let (ram, paper, journal) = (&mut bench.ram, &mut bench.paper, &mut bench.journal);
-        let answer = self.history.take_back(&mut image, ram, paper, journal, count);
+        let disks = lend(&mut bench.disks);
+        let answer = self.history.take_back(&mut image, ram, paper, journal, disks, count);
         bench.machine = decode(&image);
         answer
     }
@@ -60,7 +62,7 @@ fn take_back_is_replay() {
     let (mut taken, mut refused, mut wrapped, mut all) = (0u64, 0, 0, 0);
     for _ in 0..1_500 {
         let start = random_bench(&mut dice);
-        let slots = (start.journal.len() / 256) as u32;
+        let slots = (start.journal.len() / 512) as u32;
         let every = 1 + dice.below(20);
         let mut remembered = Remembered::new(start.clone(), every);
         let mut states = vec![start];

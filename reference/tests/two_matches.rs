@@ -330,13 +330,43 @@ fn item_6_a_history_without_records_halts_too() {
     let (mut image, mut bench) = (start.image(), start);
     let mut history = History::new(2);
     let Bench { execution, bootstrap, ram, paper, journal, .. } = &mut bench;
-    let answer = history.run(&mut image, execution, bootstrap, ram, paper, journal, 50, 0);
+    let answer = history.run(
+        &mut image,
+        execution,
+        bootstrap,
+        ram,
+        paper,
+        journal,
+        reference::no_disks(),
+        50,
+        0,
+    );
     assert_eq!(answer, Answer::done(TWO_MATCHES, 3));
-    let answer = history.take_back(&mut image, ram, paper, journal, 2);
+    let answer = history.take_back(&mut image, ram, paper, journal, reference::no_disks(), 2);
     assert_eq!(answer, Some(Answer::done(0, 2)));
-    let answer = history.run(&mut image, execution, bootstrap, ram, paper, journal, 2, 0);
+    let answer = history.run(
+        &mut image,
+        execution,
+        bootstrap,
+        ram,
+        paper,
+        journal,
+        reference::no_disks(),
+        2,
+        0,
+    );
     assert_eq!(answer, Answer::done(BUDGET_SPENT, 2));
-    let answer = history.run(&mut image, execution, bootstrap, ram, paper, journal, 1, 0);
+    let answer = history.run(
+        &mut image,
+        execution,
+        bootstrap,
+        ram,
+        paper,
+        journal,
+        reference::no_disks(),
+        1,
+        0,
+    );
     assert_eq!(answer, Answer::done(TWO_MATCHES, 0));
 }
 

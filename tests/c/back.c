@@ -10,7 +10,7 @@ enum {
     RAM = 4096,
     PAPER = 64,
     SLOTS = 4,
-    JOURNAL = 256 * SLOTS,
+    JOURNAL = LAVUSHMIR_RECORD_BYTES * SLOTS,
     INDEX = 16,
     REGISTER_9 = 5 + 4 * 8,
     ON_HAND = 5 + 4 * 122,

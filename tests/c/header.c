@@ -98,7 +98,8 @@ static void words(void)
     check(image[4] == LAVUSHMIR_IMAGE_VERSION, "version");
     check(LAVUSHMIR_WORD_PRINTER + 5 * LAVUSHMIR_PRINTERS == LAVUSHMIR_WORD_PENDING,
           "the pending map stands behind the printers");
-    check(LAVUSHMIR_WORD_BRANCH + 1 == LAVUSHMIR_IMAGE_WORDS, "the branch is the last word");
+    check(LAVUSHMIR_WORD_BRANCH + 1 + 58 == LAVUSHMIR_IMAGE_WORDS,
+          "58 words of disks stand behind the branch");
     check(LAVUSHMIR_WORD_TLB + 2 * LAVUSHMIR_TLB_ENTRIES == LAVUSHMIR_WORD_CLOCK_HIGH,
           "the clock stands behind the table");
     check(5 + 4 * LAVUSHMIR_IMAGE_WORDS == LAVUSHMIR_IMAGE_BYTES, "length");

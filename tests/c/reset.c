@@ -94,7 +94,7 @@ int main(void)
     const uint64_t past = UINT64_C(1) << 32;
     uint8_t expected[LAVUSHMIR_IMAGE_BYTES];
 
-    check(sizeof reset_image == LAVUSHMIR_IMAGE_BYTES, "509 bytes are written out");
+    check(sizeof reset_image == LAVUSHMIR_IMAGE_BYTES, "741 bytes are written out");
     unpacks();
 
     resets(INDEX, 0x12, 0x3456, 0xA5, reset_image, "reset with 0x12, 0x3456, 0xA5");
@@ -117,23 +117,24 @@ int main(void)
 
     refuses(0, 1, 1, 0, LAVUSHMIR_BAD_IMAGE, "no image bytes");
     refuses(501, 1, 1, 0, LAVUSHMIR_BAD_IMAGE, "501 image bytes, as in version 1");
-    refuses(508, 1, 1, 0, LAVUSHMIR_BAD_IMAGE, "508 image bytes");
-    refuses(510, 1, 1, 0, LAVUSHMIR_BAD_IMAGE, "510 image bytes");
-    refuses(508, 0, 0, 256, LAVUSHMIR_BAD_IMAGE, "5 comes before 6");
-    refuses(509, 0, 1, 0, LAVUSHMIR_BAD_PARAMETER, "time scale 0");
-    refuses(509, 256, 1, 0, LAVUSHMIR_BAD_PARAMETER, "time scale 256");
-    refuses(509, past + 1, 1, 0, LAVUSHMIR_BAD_PARAMETER, "time scale 2^32 + 1");
-    refuses(509, 1, 0, 0, LAVUSHMIR_BAD_PARAMETER, "printer delay 0");
-    refuses(509, 1, 65536, 0, LAVUSHMIR_BAD_PARAMETER, "printer delay 65,536");
-    refuses(509, 1, past + 1, 0, LAVUSHMIR_BAD_PARAMETER, "printer delay 2^32 + 1");
-    refuses(509, 1, 1, 256, LAVUSHMIR_BAD_PARAMETER, "installed map 256");
-    refuses(509, 1, 1, past, LAVUSHMIR_BAD_PARAMETER, "installed map 2^32");
-    refuses(509, UINT64_MAX, UINT64_MAX, UINT64_MAX, LAVUSHMIR_BAD_PARAMETER, "all ones");
-    refuses_index(508, 0, 0, 0, 256, LAVUSHMIR_BAD_IMAGE, "5 comes before 10");
-    refuses_index(509, 0, 0, 1, 0, LAVUSHMIR_BAD_PARAMETER, "6 comes before 10");
-    refuses_index(509, 0, 1, 1, 0, LAVUSHMIR_BAD_INDEX, "no index");
-    refuses_index(509, INDEX - 1, 1, 1, 0, LAVUSHMIR_BAD_INDEX, "a part of an entry");
-    refuses_index(509, MOST_INDEX + 16, 1, 1, 0, LAVUSHMIR_BAD_INDEX, "4,097 entries");
+    refuses(509, 1, 1, 0, LAVUSHMIR_BAD_IMAGE, "509 image bytes, as in version 2");
+    refuses(740, 1, 1, 0, LAVUSHMIR_BAD_IMAGE, "740 image bytes");
+    refuses(742, 1, 1, 0, LAVUSHMIR_BAD_IMAGE, "742 image bytes");
+    refuses(740, 0, 0, 256, LAVUSHMIR_BAD_IMAGE, "5 comes before 6");
+    refuses(741, 0, 1, 0, LAVUSHMIR_BAD_PARAMETER, "time scale 0");
+    refuses(741, 256, 1, 0, LAVUSHMIR_BAD_PARAMETER, "time scale 256");
+    refuses(741, past + 1, 1, 0, LAVUSHMIR_BAD_PARAMETER, "time scale 2^32 + 1");
+    refuses(741, 1, 0, 0, LAVUSHMIR_BAD_PARAMETER, "printer delay 0");
+    refuses(741, 1, 65536, 0, LAVUSHMIR_BAD_PARAMETER, "printer delay 65,536");
+    refuses(741, 1, past + 1, 0, LAVUSHMIR_BAD_PARAMETER, "printer delay 2^32 + 1");
+    refuses(741, 1, 1, 256, LAVUSHMIR_BAD_PARAMETER, "installed map 256");
+    refuses(741, 1, 1, past, LAVUSHMIR_BAD_PARAMETER, "installed map 2^32");
+    refuses(741, UINT64_MAX, UINT64_MAX, UINT64_MAX, LAVUSHMIR_BAD_PARAMETER, "all ones");
+    refuses_index(740, 0, 0, 0, 256, LAVUSHMIR_BAD_IMAGE, "5 comes before 10");
+    refuses_index(741, 0, 0, 1, 0, LAVUSHMIR_BAD_PARAMETER, "6 comes before 10");
+    refuses_index(741, 0, 1, 1, 0, LAVUSHMIR_BAD_INDEX, "no index");
+    refuses_index(741, INDEX - 1, 1, 1, 0, LAVUSHMIR_BAD_INDEX, "a part of an entry");
+    refuses_index(741, MOST_INDEX + 16, 1, 1, 0, LAVUSHMIR_BAD_INDEX, "4,097 entries");
 
     return checked("reset");
 }

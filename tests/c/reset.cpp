@@ -34,7 +34,7 @@ static void refuses(size_t bytes, uint64_t time_scale, unsigned number, const ch
 
 int main()
 {
-    static_assert(sizeof reset_image == LAVUSHMIR_IMAGE_BYTES, "509 bytes are written out");
+    static_assert(sizeof reset_image == LAVUSHMIR_IMAGE_BYTES, "741 bytes are written out");
 
     std::vector<uint8_t> image(LAVUSHMIR_IMAGE_BYTES, 0xB7);
     std::vector<uint8_t> index(2 * LAVUSHMIR_INDEX_ENTRY_BYTES, 0xB7);
@@ -52,8 +52,8 @@ int main()
     check(std::count(index.begin(), index.end(), 0) == 2 * LAVUSHMIR_INDEX_ENTRY_BYTES,
           "index of a reset");
 
-    refuses(LAVUSHMIR_IMAGE_BYTES - 1, 0x12, LAVUSHMIR_BAD_IMAGE, "508 image bytes");
-    refuses(LAVUSHMIR_IMAGE_BYTES + 1, 0, LAVUSHMIR_BAD_IMAGE, "510 image bytes, time scale 0");
+    refuses(LAVUSHMIR_IMAGE_BYTES - 1, 0x12, LAVUSHMIR_BAD_IMAGE, "740 image bytes");
+    refuses(LAVUSHMIR_IMAGE_BYTES + 1, 0, LAVUSHMIR_BAD_IMAGE, "742 image bytes, time scale 0");
     refuses(LAVUSHMIR_IMAGE_BYTES, 0, LAVUSHMIR_BAD_PARAMETER, "time scale 0");
 
     if (failures != 0) {

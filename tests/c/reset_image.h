@@ -1,6 +1,7 @@
 /*
  * The image that reset writes for time scale 0x12, printer delay 0x3456 and
- * installed map 0xA5, byte by byte from documents 01 and 02 (L2).
+ * installed map 0xA5, without disks, byte by byte from documents 01 and 02 (L2,
+ * L4).
  */
 #ifndef RESET_IMAGE_H
 #define RESET_IMAGE_H
@@ -10,9 +11,12 @@
 /* Four words that are 0. */
 #define ZEROS_4 0, 0, 0, 0, 0, 0, 0, 0, 0, 0, 0, 0, 0, 0, 0, 0
 
+/* Seven words that are 0. */
+#define ZEROS_7 ZEROS_4, 0, 0, 0, 0, 0, 0, 0, 0, 0, 0, 0, 0
+
 static const uint8_t reset_image[] = {
-    0x00, 0x00, 0x01, 0xF9, /* length word: 505 */
-    0x02,                   /* version */
+    0x00, 0x00, 0x02, 0xE1, /* length word: 737 */
+    0x03,                   /* version */
     ZEROS_4,                /* registers 1 to 4 */
     ZEROS_4,                /* 5 to 8 */
     ZEROS_4,                /* 9 to 12 */
@@ -62,7 +66,13 @@ static const uint8_t reset_image[] = {
     0x00, 0x00, 0x00, 0x00, /* steps on hand */
     0x00, 0x00, 0x00, 0x00, /* next slot */
     0x00, 0x00, 0x00, 0x00, /* slot flag */
-    0x00, 0x00, 0x00, 0x00  /* branch address */
+    0x00, 0x00, 0x00, 0x00, /* branch address */
+    0x00, 0x00, 0x00, 0x00, /* disks' installed map */
+    ZEROS_7, ZEROS_7,       /* disks 0 and 1, of seven words each */
+    ZEROS_7, ZEROS_7,       /* 2 and 3 */
+    ZEROS_7, ZEROS_7,       /* 4 and 5 */
+    ZEROS_7, ZEROS_7,       /* 6 and 7 */
+    0x00, 0x00, 0x00, 0x00  /* disks' pending map */
 };
 
 #endif

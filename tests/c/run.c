@@ -5,7 +5,7 @@
 
 #include <string.h>
 
-enum { ROM = 16, RAM = 4096, PAPER = 64, JOURNAL = 512, INDEX = 16, PC = 5 + 4 * 33 };
+enum { ROM = 16, RAM = 4096, PAPER = 64, JOURNAL = 1024, INDEX = 16, PC = 5 + 4 * 33 };
 
 static const uint8_t program[ROM] = {
     0x00, 0x20, 0x08, 0x3C, /* lui   $8, 0x2000 */
@@ -83,20 +83,20 @@ int main(void)
 
     prepare();
     memcpy(before, image, sizeof image);
-    refuses(run(508, 6, RAM - 1, 4, 100, 1000001), LAVUSHMIR_BAD_RAM, "1 before all others");
-    refuses(run(508, 6, RAM, 4, 100, 1000001), LAVUSHMIR_BAD_ROM, "2 before 3 to 6");
-    refuses(run(508, ROM, RAM, 4, 100, 1000001), LAVUSHMIR_BAD_PAPER, "3 before 4 to 6");
-    refuses(run(508, ROM, RAM, 8, 100, 1000001), LAVUSHMIR_BAD_JOURNAL, "4 before 5 and 6");
-    refuses(run(508, ROM, RAM, 8, 256, 1000001), LAVUSHMIR_BAD_IMAGE, "5 before 6");
-    refuses(run(509, ROM, RAM, 8, 256, 1000001), LAVUSHMIR_BAD_PARAMETER, "6");
-    refuses(run(509, ROM, RAM, 8, 256, (uint64_t)1 << 32), LAVUSHMIR_BAD_PARAMETER, "budget 2^32");
-    refuses(run_with(509, ROM, RAM, 8, 256, 0, 1000001), LAVUSHMIR_BAD_PARAMETER, "6 before 10");
-    refuses(run_with(509, ROM, RAM, 8, 256, 0, 1), LAVUSHMIR_BAD_INDEX, "no index");
-    refuses(run_with(509, ROM, RAM, 8, 256, INDEX - 1, 1), LAVUSHMIR_BAD_INDEX, "index too short");
-    refuses(run_with(509, ROM, RAM, 8, 256, INDEX + 16, 1), LAVUSHMIR_BAD_INDEX, "index too long");
+    refuses(run(740, 6, RAM - 1, 4, 100, 1000001), LAVUSHMIR_BAD_RAM, "1 before all others");
+    refuses(run(740, 6, RAM, 4, 100, 1000001), LAVUSHMIR_BAD_ROM, "2 before 3 to 6");
+    refuses(run(740, ROM, RAM, 4, 100, 1000001), LAVUSHMIR_BAD_PAPER, "3 before 4 to 6");
+    refuses(run(740, ROM, RAM, 8, 256, 1000001), LAVUSHMIR_BAD_JOURNAL, "4 before 5 and 6");
+    refuses(run(740, ROM, RAM, 8, 512, 1000001), LAVUSHMIR_BAD_IMAGE, "5 before 6");
+    refuses(run(741, ROM, RAM, 8, 512, 1000001), LAVUSHMIR_BAD_PARAMETER, "6");
+    refuses(run(741, ROM, RAM, 8, 512, (uint64_t)1 << 32), LAVUSHMIR_BAD_PARAMETER, "budget 2^32");
+    refuses(run_with(741, ROM, RAM, 8, 512, 0, 1000001), LAVUSHMIR_BAD_PARAMETER, "6 before 10");
+    refuses(run_with(741, ROM, RAM, 8, 512, 0, 1), LAVUSHMIR_BAD_INDEX, "no index");
+    refuses(run_with(741, ROM, RAM, 8, 512, INDEX - 1, 1), LAVUSHMIR_BAD_INDEX, "index too short");
+    refuses(run_with(741, ROM, RAM, 8, 512, INDEX + 16, 1), LAVUSHMIR_BAD_INDEX, "index too long");
     check(memcmp(before, image, sizeof image) == 0, "refusals leave the image");
     image[0] ^= 1;
-    refuses(run(509, ROM, RAM, 8, 256, 1), LAVUSHMIR_BAD_IMAGE, "a damaged image");
+    refuses(run(741, ROM, RAM, 8, 512, 1), LAVUSHMIR_BAD_IMAGE, "a damaged image");
 
     return checked("run");
 }

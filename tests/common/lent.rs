@@ -29,7 +29,7 @@ pub struct Slices<'a> {
 }
 
 impl Lent {
-    pub fn slices(&mut self) -> Slices {
+    pub fn slices(&mut self) -> Slices<'_> {
         Slices {
             image: self.image.content_mut(),
             execution: self.execution.content(),

@@ -38,6 +38,7 @@ pub struct Bench {
     pub paper: Vec<u8>,
     pub journal: Vec<u8>,
     pub index: Vec<u8>,
+    pub disks: [Vec<u8>; 8],
 }
 
 /// Everything lent, as the host would compare it.
@@ -50,6 +51,7 @@ impl PartialEq for Bench {
             && self.paper == other.paper
             && self.journal == other.journal
             && self.index == other.index
+            && self.disks == other.disks
     }
 }
 
@@ -63,7 +65,7 @@ impl std::fmt::Debug for Bench {
 /// An image as reset leaves it: scale 1, delay 3, printers 0 and 2.
 pub fn reset_image() -> Vec<u8> {
     let mut image = vec![0xEE; IMAGE_BYTES];
-    assert_eq!(reset(&mut image, &mut [7; 16], 1, DELAY.into(), 5).packed(), 0);
+    assert_eq!(reset(&mut image, &mut [7; 16], 1, DELAY.into(), 5, 0, [0; 8]).packed(), 0);
     image
 }
 
@@ -72,6 +74,11 @@ pub fn put_words(bytes: &mut [u8], at: usize, words: &[u32]) {
         let place = at + number * 4;
         bytes[place..place + 4].copy_from_slice(&word.to_le_bytes());
     }
+}
+
+/// The disks' buffers, as a call is lent them.
+pub fn lend(disks: &mut [Vec<u8>; 8]) -> [&mut [u8]; 8] {
+    disks.each_mut().map(|disk| &mut disk[..])
 }
 
 impl Bench {
@@ -90,8 +97,9 @@ impl Bench {
             bootstrap: vec![0; 0x200],
             ram: vec![0; 0x2000],
             paper: vec![0; 32],
-            journal: vec![0; 4 * 256],
+            journal: vec![0; 4 * 512],
             index: vec![0; 2 * 16],
+            disks: Default::default(),
         }
     }
 
@@ -139,11 +147,12 @@ impl Bench {
             &mut self.ram,
             &mut self.paper,
             &mut self.journal,
+            lend(&mut self.disks),
             budget,
             stop,
         );
         if answer.number == 0 {
-            assert!(keeps_rules(&image, self.paper.len(), self.journal.len()));
+            assert!(keeps_rules(&image, self.ram.len(), self.paper.len(), self.journal.len()));
         }
         self.machine = decode(&image);
         answer
@@ -166,10 +175,14 @@ impl Bench {
             &mut self.paper,
             &mut self.journal,
             &mut self.index,
+            lend(&mut self.disks),
             budget,
             stop,
         );
-        assert!(answer.number != 0 || keeps_rules(&image, self.paper.len(), self.journal.len()));
+        assert!(
+            answer.number != 0
+                || keeps_rules(&image, self.ram.len(), self.paper.len(), self.journal.len())
+        );
         self.machine = decode(&image);
         answer
     }
@@ -182,6 +195,7 @@ impl Bench {
             bootstrap_rom: &self.bootstrap,
             ram: &mut self.ram,
             paper: &mut self.paper,
+            disks: lend(&mut self.disks),
         };
         reference::step(&mut self.machine, &mut memory, &mut NoRecord)
     }
@@ -197,6 +211,7 @@ impl Bench {
             &mut after.paper,
             &after.journal,
             &mut after.index,
+            lend(&mut after.disks),
             steps,
         );
         after.machine = decode(&image);
@@ -205,7 +220,7 @@ impl Bench {
             assert_eq!(after, *self);
         } else {
             assert_eq!((answer.reason, u64::from(answer.steps)), (0, steps));
-            assert!(keeps_rules(&image, after.paper.len(), after.journal.len()));
+            assert!(keeps_rules(&image, after.ram.len(), after.paper.len(), after.journal.len()));
             assert_eq!(after.machine.on_hand, self.machine.on_hand - answer.steps);
         }
         *self = after;
@@ -213,14 +228,14 @@ impl Bench {
     }
 
     pub fn slots(&self) -> u32 {
-        (self.journal.len() / 256) as u32
+        (self.journal.len() / 512) as u32
     }
 
     /// The record of the newest step but `age`.
     pub fn record(&mut self, age: u32) -> &mut [u8] {
         let slots = self.slots();
         let slot = (self.machine.next_slot + slots - 1 - age) % slots;
-        &mut self.journal[slot as usize * 256..][..256]
+        &mut self.journal[slot as usize * 512..][..512]
     }
 
     /// Runs so many steps, all without an exception.

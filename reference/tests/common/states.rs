@@ -150,7 +150,7 @@ pub fn random_bench(dice: &mut Dice) -> Bench {
     let mut bench = Bench::new();
     let eighth = dice.below(4);
     bench.paper = (0..eighth * 8).map(|_| dice.word() as u8).collect();
-    bench.journal = vec![0; 256 * dice.pick(&[0, 1, 3, 50]) as usize];
+    bench.journal = vec![0; 512 * dice.pick(&[0, 1, 3, 50]) as usize];
     let slots = bench.slots();
     let machine = &mut bench.machine;
     *machine = Machine::default();
@@ -203,7 +203,7 @@ pub fn random_bench(dice: &mut Dice) -> Bench {
 /// A random machine with a journal of so many slots, full of random bytes.
 pub fn random_bench_with_slots(dice: &mut Dice, slots: u32) -> Bench {
     let mut bench = random_bench(dice);
-    bench.journal = (0..slots * 256).map(|_| dice.word() as u8).collect();
+    bench.journal = (0..slots * 512).map(|_| dice.word() as u8).collect();
     bench.machine.next_slot = if slots == 0 { 0 } else { dice.below(slots) };
     bench
 }

@@ -12,6 +12,7 @@ use crate::valid::Case;
 use crate::wild::fitted;
 use crate::wrong::{Choices, CHOICES, IMAGE, JOURNAL, PAPER, RAM};
 use reference::decode;
+use reference::layout::RECORD_BYTES;
 
 /// What can be wrong, a bit for each, and its number.
 pub const ROWS: [(&str, u8); 6] =
@@ -50,7 +51,7 @@ pub fn lengths(dice: &mut Dice, wrong: u32) -> [u64; 4] {
 /// wrong as it is to be. There are records on hand wherever there are slots.
 pub fn asked(dice: &mut Dice, lengths: [u64; 4], wrong: u32) -> Asked {
     let [_, paper, journal, _] = lengths;
-    let slots = (journal / 256).min(65_536) as u32;
+    let slots = (journal as usize / RECORD_BYTES).min(32_768) as u32;
     let paper = paper.min(65_536) as u32;
     let lent = Lengths { ram: 4_096, execution: 4, bootstrap: 4, paper: paper / 8 * 8, slots };
     let mut case = fitted(dice, &lent);
@@ -84,12 +85,12 @@ pub fn lent(dice: &mut Dice, pool: &Pool, asked: &Asked) -> Call {
     let mut image_bytes = asked.case.bytes();
     let record = plain(&decode(&image_bytes));
     let mut journal = pool.bytes(dice, journal);
-    for slot in journal.chunks_exact_mut(256) {
+    for slot in journal.chunks_exact_mut(RECORD_BYTES) {
         slot.copy_from_slice(&record);
     }
     for slot in &asked.records {
         let place = dice.pick(&[KIND, SLOT_FLAG, UNUSED]);
-        set(&mut journal[256 * slot..][..256], place, 1 << dice.between(2, 31));
+        set(&mut journal[RECORD_BYTES * slot..][..RECORD_BYTES], place, 1 << dice.between(2, 31));
     }
     image_bytes.resize(image, 0);
     Call {

@@ -47,7 +47,7 @@ impl Case<'_> {
     }
 
     fn slot(&self, age: u32) -> usize {
-        let slots = self.left.journal.len() / 256;
+        let slots = self.left.journal.len() / RECORD_BYTES;
         newest(self.machine.next_slot, slots, age as usize + 1).last().expect("a slot")
     }
 

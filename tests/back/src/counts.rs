@@ -16,8 +16,13 @@ const CODES: [&str; 13] = [
     "10 RI", "11 CpU", "12 Ov",
 ];
 
-const KINDS: [&str; 4] =
-    ["nothing else", "registers", "rows of the translation table", "words of RAM"];
+const KINDS: [&str; 5] = [
+    "nothing else",
+    "registers",
+    "rows of the translation table",
+    "words of RAM",
+    "registers of disks that are not there",
+];
 
 fn lowest(counts: &[u64]) -> u64 {
     counts.iter().copied().min().unwrap_or(0)
@@ -123,7 +128,7 @@ fn stepped(least: &mut Least, met: &Stepped, enough: &Enough) {
 
 struct Enough {
     records: u64,
-    kinds: [u64; 4],
+    kinds: [u64; 5],
     codes: [u64; 13],
     slots: u64,
     passages: u64,
@@ -135,7 +140,7 @@ struct Enough {
 
 const SEQUENCE: Enough = Enough {
     records: 1_000_000,
-    kinds: [100_000, 100_000, 5_000, 2_500],
+    kinds: [100_000, 100_000, 5_000, 2_500, 50],
     codes: [10_000, 100, 10_000, 400, 10_000, 1_500, 3_000, 1_000, 100, 100, 500, 500, 80],
     slots: 50_000,
     passages: 2_000,
@@ -149,7 +154,7 @@ const SEQUENCE: Enough = Enough {
 /// soak's clock is far from its round.
 const SOAK: Enough = Enough {
     records: 2_000_000,
-    kinds: [500_000, 500_000, 5_000, 50_000],
+    kinds: [500_000, 500_000, 5_000, 50_000, 0],
     codes: [2_000, 50_000, 5_000, 20, 800, 800, 0, 800, 1_500, 800, 800, 1_500, 800],
     slots: 50_000,
     passages: 2_000,

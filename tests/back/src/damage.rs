@@ -15,7 +15,7 @@ pub struct Spot<'a> {
 
 pub type Damage = (&'static str, fn(&mut Spot, &mut Dice));
 
-pub const DAMAGES: [Damage; 41] = [
+pub const DAMAGES: [Damage; 50] = [
     ("one bit", |spot, dice| bits(spot, dice, 1)),
     ("two bits", |spot, dice| bits(spot, dice, 2)),
     ("three bits", |spot, dice| bits(spot, dice, 3)),
@@ -35,7 +35,10 @@ pub const DAMAGES: [Damage; 41] = [
     ("shifted by a word", |spot, _| spot.record.rotate_left(4)),
     ("a random word", |spot, dice| spot.set(dice.below(WORDS as u32) as usize, dice.word())),
     ("a word that no rule looks at", |spot, dice| spot.set(dice.pick(&FREE), dice.word())),
-    ("the last word", |spot, dice| spot.set(UNUSED, 1 << dice.below(32))),
+    ("a word that holds nothing", |spot, dice| {
+        let place = dice.between(UNUSED as u32, WORDS as u32 - 1);
+        spot.set(place as usize, 1 << dice.below(32));
+    }),
     ("a slot flag alone", |spot, dice| {
         spot.set(SLOT_FLAG, dice.pick(&[0, 1, 2, 3, 0x100, 0x101, 1 << 31, u32::MAX]));
     }),
@@ -45,7 +48,7 @@ pub const DAMAGES: [Damage; 41] = [
         spot.set(BRANCH_ADDRESS, dice.pick(&[0, 1, 4, 1 << 31, u32::MAX, any]));
     }),
     ("a kind alone", |spot, dice| {
-        spot.set(KIND, dice.pick(&[0, 1, 2, 3, 4, 5, 0x100, 0x103, 1 << 31, u32::MAX]));
+        spot.set(KIND, dice.pick(&[0, 1, 2, 3, 4, 5, 6, 0x100, 0x104, 1 << 31, u32::MAX]));
     }),
     ("nothing, as it should be", |spot, _| spot.kind(NOTHING, 0, 0, 0)),
     ("nothing, with a word", |spot, dice| {
@@ -94,6 +97,51 @@ pub const DAMAGES: [Damage; 41] = [
         let (near, far) = (dice.below(20), 1 << dice.between(16, 31));
         let distance = dice.pick(&[near, 65_535, 65_536, far, far, far | near, u32::MAX]);
         spot.kind(RAM_WORD, place, dice.word(), distance);
+    }),
+    ("a register of a disk", |spot, dice| {
+        spot.kind(DISK_WORD, disk_register(dice.below(8), dice.pick(&[4, 8])), 0, 0);
+    }),
+    ("a register of a disk with a value", |spot, dice| {
+        let [old, status] = dice.pick(&[[1, 0], [0, 1], [0, 3], [1, 1]]);
+        spot.kind(DISK_WORD, disk_register(dice.below(8), dice.pick(&[4, 8])), old, status);
+    }),
+    ("no register of a disk", |spot, dice| {
+        let (number, far) = (dice.below(8), 1 << dice.between(9, 31));
+        let offsets = [0, 4, 0x20, 0x4C, 0xD4, 0x1D4, disk_register(number, 0), far];
+        let other = dice.pick(&[disk_register(number, 12), disk_register(number, 5), far + 0x54]);
+        let offset = dice.pick(&offsets);
+        spot.kind(DISK_WORD, dice.pick(&[offset, other]), 0, 0);
+    }),
+    ("a disk's how", |spot, dice| {
+        let number = dice.below(8) as usize;
+        spot.set(disk(number, HOW), dice.pick(&[1, 2, 3, 4, 5, 0x1_0000, 0x8000, u32::MAX]));
+    }),
+    ("a disk at work", |spot, dice| {
+        let number = dice.below(8) as usize;
+        spot.set(disk(number, HOW), dice.between(1, 3));
+        spot.set(disk(number, LEFT), dice.pick(&[1, 1 << 16, 1_024 << 16]));
+    }),
+    ("a disk that read a word", |spot, dice| {
+        let number = dice.below(8) as usize;
+        spot.set(disk(number, HOW), READ);
+        spot.set(disk(number, LEFT), dice.between(1, 1_024) << 16);
+        spot.set(disk(number, PLACE), 4 * dice.below(spot.judge.ram / 4));
+        spot.set(disk(number, BYTES), dice.word());
+    }),
+    ("a word of a disk", |spot, dice| {
+        let place = disk(dice.below(8) as usize, dice.between(1, 3) as usize);
+        spot.set(place, 1 << dice.below(32));
+    }),
+    ("a disk's distance", |spot, dice| {
+        let at = disk_distance(dice.below(8) as usize);
+        spot.record[at + dice.below(2) as usize] = dice.between(1, 255) as u8;
+    }),
+    ("the disks' pending map", |spot, dice| {
+        spot.set(DISKS_PENDING, 1 << dice.below(32));
+        if dice.chance(2) {
+            let cause = word(spot.record, CAUSE);
+            spot.set(CAUSE, cause | 0x800);
+        }
     }),
     ("a map of printers that wrote", |spot, dice| {
         spot.set(PRINTED, dice.below(256));
@@ -174,7 +222,7 @@ pub const DAMAGES: [Damage; 41] = [
 
 fn bits(spot: &mut Spot, dice: &mut Dice, count: u32) {
     for _ in 0..count {
-        spot.record[dice.below(256) as usize] ^= 1 << dice.below(8);
+        spot.record[dice.below(RECORD_BYTES as u32) as usize] ^= 1 << dice.below(8);
     }
 }
 

@@ -13,7 +13,8 @@ use crate::report::different;
 use crate::scene::scene;
 use crate::sides::Sides;
 use crate::starts::{together, LONGEST};
-use reference::{decode, encode, run_with_records};
+use reference::diskless::run_with_records;
+use reference::{decode, encode};
 
 /// Damages tried on one run's journal.
 const ON_ONE: u64 = 8;
@@ -39,7 +40,7 @@ fn tried(dice: &mut Dice, pool: &Pool, slots: usize) -> Call {
     if dice.chance(3) {
         together(dice, pool, &mut call);
     }
-    call.journal = pool.bytes(dice, 256 * slots);
+    call.journal = pool.bytes(dice, RECORD_BYTES * slots);
     let mut machine = decode(&call.image);
     machine.on_hand = 0;
     machine.next_slot = dice.below(slots as u32);
@@ -85,7 +86,7 @@ fn other_lengths(dice: &mut Dice, pool: &Pool, what: String, met: &mut Met) {
     let steps = dice.between(1, machine.on_hand);
     // Few stores are near the end of RAM; one of the steps becomes one.
     let slot = newest(machine.next_slot, 17, dice.between(1, steps) as usize).last();
-    let record = &mut call.journal[256 * slot.expect("at least one")..][..256];
+    let record = &mut call.journal[RECORD_BYTES * slot.expect("at least one")..][..RECORD_BYTES];
     let place = call.ram.len() as u32 - 4 * dice.between(1, 16);
     for (word, value) in [(KIND, RAM_WORD), (WHICH, place), (OLD, dice.word()), (OLD_LOW, 0)] {
         set(record, word, value);

@@ -18,15 +18,18 @@ pub struct Judge {
 pub type Wrong = (&'static str, u64, fn(&Judge, &[u8]) -> bool);
 
 #[rustfmt::skip]
-pub const WRONGS: [Wrong; 33] = [
-    ("the last word is not 0", 800, |_, r| word(r, UNUSED) != 0),
-    ("a kind over 3", 500, |_, r| word(r, KIND) > 3),
+pub const WRONGS: [Wrong; 39] = [
+    ("a word that holds nothing is not 0", 800, |_, r| (UNUSED..WORDS).any(|place| word(r, place) != 0)),
+    ("a kind over 4", 400, |_, r| word(r, KIND) > 4),
     ("words beside kind 0", 800, |_, r| kind(r, NOTHING) && [WHICH, OLD, OLD_LOW].iter().any(|place| word(r, *place) != 0)),
     ("a register's number", 600, |_, r| kind(r, REGISTER) && !(1..=31).contains(&word(r, WHICH))),
     ("a word beside a register", 700, |_, r| kind(r, REGISTER) && word(r, OLD_LOW) != 0),
     ("a row's index", 400, |_, r| kind(r, ROW) && word(r, WHICH) > 15),
     ("a RAM place that is not a multiple of 4", 700, |_, r| kind(r, RAM_WORD) && word(r, WHICH) % 4 != 0),
     ("a distance over 65,535", 700, |_, r| kind(r, RAM_WORD) && word(r, DISTANCE) > 65_535),
+    ("no register of a disk", 400, |_, r| kind(r, DISK_WORD) && !register(word(r, WHICH))),
+    ("a disk's how over 3", 200, |_, r| disks().any(|k| how(r, k) > 3)),
+    ("words of a disk that was not at work", 900, |_, r| disks().any(|k| how(r, k) == 0 && ((0..4).any(|field| word(r, disk(k, field)) != 0) || distance(r, k) != 0))),
     ("a printer over 7 wrote", 700, |_, r| word(r, PRINTED) > 0xFF),
     ("a byte of a printer that did not write", 700, |_, r| (0..8).any(|k| !wrote(r, k) && r[PAPER_BYTES + k] != 0)),
     ("a RAM place outside RAM", 400, |judge, r| kind(r, RAM_WORD) && word(r, WHICH) / 4 >= judge.ram / 4),
@@ -37,6 +40,10 @@ pub const WRONGS: [Wrong; 33] = [
     ("Cause outside its mask", 100, |_, r| word(r, CAUSE) & !0xB000_FF7C != 0),
     ("an ExcCode over 12", 150, |_, r| word(r, CAUSE) >> 2 & 31 > 12),
     ("IP[6] against the pending map", 60, |_, r| (word(r, CAUSE) >> 14 & 1 != 0) != (word(r, PENDING) != 0)),
+    // There are no disks here: none can be at work, pending or written to.
+    ("a disk at work", 900, |_, r| disks().any(|k| (1..=3).contains(&how(r, k)))),
+    ("a disk pending", 500, |_, r| word(r, DISKS_PENDING) != 0),
+    ("a value of a disk's register", 400, |_, r| kind(r, DISK_WORD) && register(word(r, WHICH)) && (word(r, OLD) != 0 || word(r, OLD_STATUS) != 0)),
     ("IP[3], IP[4], IP[5] or IP[7]", 80, |_, r| word(r, CAUSE) & 0xB800 != 0),
     ("Index outside its mask", 150, |_, r| word(r, INDEX) & !0x8000_3F00 != 0),
     ("Random", 800, |_, r| !(1..=15).map(|field| field << 8).any(|random| random == word(r, RANDOM))),
@@ -68,6 +75,24 @@ fn of(record: &[u8], number: usize, field: usize) -> u32 {
 
 fn busy(record: &[u8], number: usize) -> bool {
     of(record, number, PRINTER_STATUS) == 3
+}
+
+fn disks() -> std::ops::Range<usize> {
+    0..8
+}
+
+fn how(record: &[u8], number: usize) -> u32 {
+    word(record, disk(number, HOW)) & 0xFFFF
+}
+
+fn distance(record: &[u8], number: usize) -> u16 {
+    let at = disk_distance(number);
+    u16::from_le_bytes([record[at], record[at + 1]])
+}
+
+/// Whether an offset in the device area is COMMAND or DATA0 of a disk.
+fn register(offset: u32) -> bool {
+    (0..8).any(|number| [4, 8].iter().any(|field| offset == disk_register(number, *field)))
 }
 
 impl Judge {

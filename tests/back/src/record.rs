@@ -3,8 +3,8 @@
 
 use reference::Machine;
 
-pub const RECORD_BYTES: usize = 256;
-pub const WORDS: usize = 64;
+pub const RECORD_BYTES: usize = 512;
+pub const WORDS: usize = 128;
 
 pub const PC: usize = 2;
 pub const NEXT_PC: usize = 3;
@@ -20,13 +20,17 @@ pub const BRANCH_ADDRESS: usize = 13;
 pub const TIMER: usize = 14;
 pub const PENDING: usize = 15;
 pub const PRINTED: usize = 16;
-pub const KIND: usize = 19;
-pub const WHICH: usize = 20;
-pub const OLD: usize = 21;
-pub const OLD_LOW: usize = 22;
+pub const KIND: usize = 59;
+pub const WHICH: usize = 60;
+pub const OLD: usize = 61;
+pub const OLD_LOW: usize = 62;
 /// Of a RAM word, in the place of OLD_LOW.
-pub const DISTANCE: usize = 22;
-pub const UNUSED: usize = 63;
+pub const DISTANCE: usize = 62;
+/// Of a disk's word, in the place of OLD_LOW.
+pub const OLD_STATUS: usize = 62;
+pub const DISKS_PENDING: usize = 63;
+/// The first of those that hold nothing.
+pub const UNUSED: usize = 100;
 
 /// The byte at which the eight old bytes of paper start.
 pub const PAPER_BYTES: usize = 68;
@@ -35,6 +39,16 @@ pub const NOTHING: u32 = 0;
 pub const REGISTER: u32 = 1;
 pub const ROW: u32 = 2;
 pub const RAM_WORD: u32 = 3;
+pub const DISK_WORD: u32 = 4;
+
+/// How a disk read a word into RAM.
+pub const READ: u32 = 2;
+
+// Places within the four words of a disk.
+pub const HOW: usize = 0;
+pub const LEFT: usize = 1;
+pub const PLACE: usize = 2;
+pub const BYTES: usize = 3;
 
 /// Words that no rule looks at: HI, LO, PC, next PC, BadVAddr, EPC, timer.
 pub const FREE: [usize; 7] = [0, 1, PC, NEXT_PC, 8, EPC, TIMER];
@@ -47,7 +61,22 @@ pub const COUNT: usize = 4;
 
 /// The place of one of a printer's five words.
 pub const fn printer(number: usize, field: usize) -> usize {
-    23 + 5 * number + field
+    19 + 5 * number + field
+}
+
+/// The place of one of a disk's four words.
+pub const fn disk(number: usize, field: usize) -> usize {
+    64 + 4 * number + field
+}
+
+/// The byte at which a disk's distance starts, of two bytes.
+pub const fn disk_distance(number: usize) -> usize {
+    4 * 96 + 2 * number
+}
+
+/// The offset in the device area of a disk's COMMAND or DATA0 (4, 8).
+pub const fn disk_register(number: u32, field: u32) -> u32 {
+    0x50 + 0x10 * number + field
 }
 
 pub fn word(record: &[u8], place: usize) -> u32 {
@@ -90,6 +119,7 @@ pub fn plain(machine: &Machine) -> [u8; RECORD_BYTES] {
             set(&mut record, printer(number, field), value);
         }
     }
+    set(&mut record, DISKS_PENDING, machine.disks_pending);
     record
 }
 

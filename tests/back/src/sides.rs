@@ -8,6 +8,7 @@ use crate::lending;
 use crate::lent::Lent;
 use crate::names::{index_byte, journal_byte, paper_byte, ram_byte};
 use crate::report::unpacked;
+use reference::layout::RECORD_BYTES;
 use reference::{decode, Answer, Machine};
 
 /// What a call may write.
@@ -53,7 +54,7 @@ impl Sides {
         let ours = lending::reset(&mut self.lent, parameters);
         let [time_scale, delay, installed] = parameters;
         let Buffers { image, index, .. } = &mut self.theirs;
-        let theirs = reference::reset(image, index, time_scale, delay, installed);
+        let theirs = reference::diskless::reset(image, index, time_scale, delay, installed);
         self.compared(ours, theirs)
     }
 
@@ -61,7 +62,7 @@ impl Sides {
         let ours = lending::run(&mut self.lent, budget, stop);
         let Buffers { image, ram, paper, journal, index } = &mut self.theirs;
         let (execution, bootstrap) = (self.lent.execution.content(), self.lent.bootstrap.content());
-        let theirs = reference::run_with_records(
+        let theirs = reference::diskless::run_with_records(
             image, execution, bootstrap, ram, paper, journal, index, budget, stop,
         );
         self.compared(ours, theirs)
@@ -70,7 +71,7 @@ impl Sides {
     pub fn take_back(&mut self, steps: u64) -> Both {
         let ours = lending::take_back(&mut self.lent, steps);
         let Buffers { image, ram, paper, journal, index } = &mut self.theirs;
-        let theirs = reference::take_back(image, ram, paper, journal, index, steps);
+        let theirs = reference::diskless::take_back(image, ram, paper, journal, index, steps);
         self.compared(ours, theirs)
     }
 
@@ -90,8 +91,16 @@ impl Sides {
         while left > 0 {
             let budget = left.min(MOST_BUDGET);
             let (image, ram, paper) = (&mut image, &mut ram, &mut paper);
-            let answer =
-                reference::run(image, execution, bootstrap, ram, paper, &mut [], budget, 0);
+            let answer = reference::diskless::run(
+                image,
+                execution,
+                bootstrap,
+                ram,
+                paper,
+                &mut [],
+                budget,
+                0,
+            );
             if u64::from(answer.steps) != budget {
                 return false;
             }
@@ -125,8 +134,9 @@ impl Sides {
 
     /// Writes a record into both journals.
     pub fn set_record(&mut self, slot: usize, record: &[u8]) {
-        self.lent.journal.content_mut()[256 * slot..][..256].copy_from_slice(record);
-        self.theirs.journal[256 * slot..][..256].copy_from_slice(record);
+        self.lent.journal.content_mut()[RECORD_BYTES * slot..][..RECORD_BYTES]
+            .copy_from_slice(record);
+        self.theirs.journal[RECORD_BYTES * slot..][..RECORD_BYTES].copy_from_slice(record);
     }
 
     /// Writes all but the journals.

@@ -12,6 +12,7 @@ use crate::scene::STOPS;
 use crate::sides::{Both, Sides};
 use crate::starts::LONGEST;
 use crate::stepped::Stepped;
+use reference::layout::RECORD_BYTES;
 use reference::{Answer, IMAGE_BYTES, TWO_MATCHES};
 
 const PROGRESS: u64 = 10_000_000;
@@ -40,7 +41,7 @@ fn start(dice: &mut Dice) -> Call {
         bootstrap: bootstrap_rom(),
         ram,
         paper: pool.bytes(dice, 65_536),
-        journal: pool.bytes(dice, 256 * LONGEST),
+        journal: pool.bytes(dice, RECORD_BYTES * LONGEST),
         index: empty_index(4_096 * FRAMES),
         budget: 0,
         stop: 0,

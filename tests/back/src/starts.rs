@@ -5,6 +5,7 @@ use crate::call::Call;
 use crate::dice::Dice;
 use crate::pool::Pool;
 use crate::scene::scene;
+use reference::layout::RECORD_BYTES;
 use reference::{decode, encode, Machine, Printer};
 
 pub struct Start {
@@ -17,7 +18,7 @@ pub struct Start {
     pub lead: u64,
 }
 
-pub const LONGEST: usize = 65_536;
+pub const LONGEST: usize = 32_768;
 
 /// The longest journal is costly to compare, so that it is rare.
 pub fn slots(dice: &mut Dice) -> usize {
@@ -29,7 +30,7 @@ pub fn slots(dice: &mut Dice) -> usize {
 
 pub fn start(dice: &mut Dice, pool: &Pool, slots: usize) -> Start {
     let mut call = scene(dice, pool);
-    call.journal = pool.bytes(dice, 256 * slots);
+    call.journal = pool.bytes(dice, RECORD_BYTES * slots);
     let mut start = Start { name: "a scene", call, reset: None, lead: 0 };
     place(dice, &mut start.call, slots);
     match dice.below(16) {

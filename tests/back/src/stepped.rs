@@ -7,7 +7,7 @@ use reference::Machine;
 #[derive(Default)]
 pub struct Stepped {
     pub records: u64,
-    pub by_kind: [u64; 4],
+    pub by_kind: [u64; 5],
     pub by_code: [u64; 13],
     /// Steps in slots, and those that entered an exception.
     pub slots: u64,

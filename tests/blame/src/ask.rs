@@ -9,6 +9,7 @@ use crate::program::{Home, PLACES, PROGRAM, STORES};
 use crate::screen::{self, Before, Blame, Frame, Now};
 use crate::session::Said;
 use crate::world::World;
+use reference::layout::RECORD_BYTES;
 
 /// A record of a store (docs/RECORD.md), and the distance in it.
 const KIND: std::ops::Range<usize> = 76..80;
@@ -18,7 +19,7 @@ const DISTANCE: std::ops::Range<usize> = 88..92;
 /// step that has fallen out of the journal since.
 fn without_distances(journal: &[u8]) -> Vec<u8> {
     let mut journal = journal.to_vec();
-    for record in journal.chunks_exact_mut(256) {
+    for record in journal.chunks_exact_mut(RECORD_BYTES) {
         if record[KIND] == [3, 0, 0, 0] {
             record[DISTANCE].fill(0);
         }

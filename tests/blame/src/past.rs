@@ -130,6 +130,7 @@ impl Past {
             bootstrap_rom: &self.bootstrap,
             ram: &mut self.ram,
             paper: &mut self.paper,
+            disks: reference::no_disks(),
         };
         assert!(!step_meets_two(&state.machine, &memory), "the programs have no page twice");
         state.entered = step(&mut state.machine, &mut memory, &mut touched);

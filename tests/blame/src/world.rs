@@ -8,9 +8,10 @@ use crate::panel::Panel;
 use crate::past::{Past, FRAME};
 use crate::program::*;
 use crate::session::{Manner, Session};
-use reference::{decode, encode, reset, IMAGE_BYTES};
+use reference::diskless::reset;
+use reference::{decode, encode, IMAGE_BYTES};
 
-const RECORD_BYTES: usize = 256;
+const RECORD_BYTES: usize = 512;
 
 /// Five numbers of slots by name; the sixth is any other up to 80. The larger
 /// ones come up more often.

@@ -8,7 +8,8 @@ use crate::screen::{self, Before, Blame};
 use crate::session::Said;
 use crate::show;
 use crate::world::World;
-use reference::{decode, encode, run_with_records, take_back, Machine};
+use reference::diskless::{run_with_records, take_back};
+use reference::{decode, encode, Machine};
 
 fn flip(bytes: &mut [u8]) {
     if let Some(byte) = bytes.last_mut() {

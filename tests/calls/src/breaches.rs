@@ -8,7 +8,7 @@ use crate::valid::Case;
 
 pub type Breach = (&'static str, fn(&mut Case, &mut Dice) -> bool);
 
-pub const BREACHES: [Breach; 50] = [
+pub const BREACHES: [Breach; 54] = [
     ("length word one less", |case, _| put(&mut case.length_word, LENGTH_WORD - 1)),
     ("length word one more", |case, _| put(&mut case.length_word, LENGTH_WORD + 1)),
     ("the version before", |case, _| put(&mut case.version, VERSION - 1)),
@@ -22,7 +22,7 @@ pub const BREACHES: [Breach; 50] = [
         case.words[PENDING] != 0 && put(&mut case.words[CAUSE], without)
     }),
     ("IP[6] on, none pending", |case, _| case.words[PENDING] == 0 && line(case, 6)),
-    ("IP[3] on", |case, _| line(case, 3)),
+    ("IP[3] on, none pending", |case, _| line(case, 3)),
     ("IP[4] on", |case, _| line(case, 4)),
     ("IP[5] on", |case, _| line(case, 5)),
     ("IP[7] on", |case, _| line(case, 7)),
@@ -107,6 +107,18 @@ pub const BREACHES: [Breach; 50] = [
     }),
     ("the flag gone, the branch address left", |case, _| {
         case.words[BRANCH_ADDRESS] != 0 && put(&mut case.words[SLOT_FLAG], 0)
+    }),
+    ("a disk over 7", |case, dice| put(&mut case.words[DISKS_INSTALLED], 1 << dice.between(8, 31))),
+    ("a disk with STATUS 0", |case, dice| {
+        put(&mut case.words[DISKS_INSTALLED], 1 << dice.below(8))
+    }),
+    ("a disk that is not installed is not 0", |case, dice| {
+        let place = DISKS + dice.below(8 * DISK_WORDS as u32) as usize;
+        put(&mut case.words[place], 1 << dice.below(32))
+    }),
+    ("a disk pending, none installed", |case, dice| {
+        case.words[DISKS_PENDING] = 1 << dice.below(32);
+        line(case, 3)
     }),
 ];
 

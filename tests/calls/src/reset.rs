@@ -64,9 +64,14 @@ impl Counts {
 fn one(before: &[u8], numbers: Numbers, counts: &mut Counts) {
     let [time_scale, printer_delay, installed] = numbers;
     let (mut expected, mut expected_index) = (before.to_vec(), INDEX);
-    let reference =
-        reference::reset(&mut expected, &mut expected_index, time_scale, printer_delay, installed)
-            .packed();
+    let reference = reference::diskless::reset(
+        &mut expected,
+        &mut expected_index,
+        time_scale,
+        printer_delay,
+        installed,
+    )
+    .packed();
     let (mut image, mut index) = (Guarded::new(before), Guarded::new(&INDEX));
     let archive = archive::reset(&mut image, &mut index, time_scale, printer_delay, installed);
     let same = image.content() == expected && index.content() == expected_index;
@@ -112,7 +117,7 @@ fn good_numbers(dice: &mut Dice) -> Numbers {
 /// Every length, with good numbers and with one bad number.
 fn lengths(dice: &mut Dice, counts: &mut Counts) -> u64 {
     let mut met = 0;
-    for length in 0..=600 {
+    for length in 0..=800 {
         for turn in 0..12 {
             let mut numbers = good_numbers(dice);
             if turn % 2 == 1 {
@@ -175,7 +180,7 @@ pub fn compare(dice: &mut Dice) {
     println!("reset: {} calls so far", counts.calls);
     random_numbers(dice, &mut counts);
     println!("reset: all");
-    at_least("lengths, of 601", lengths, 601);
+    at_least("lengths, of 801", lengths, 801);
     at_least("good values, of 255 + 65,535 + 256", values, 255 + 65_535 + 256);
     at_least("calls", counts.calls, LEAST_CALLS);
     at_least("answered 0", counts.done, 50_000);

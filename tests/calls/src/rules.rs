@@ -87,10 +87,20 @@ fn breaches(dice: &mut Dice, judge: &mut Judge) -> Vec<u64> {
     counts
 }
 
+/// An image that keeps the rules, but has a disk, which the archive has not yet.
+fn disks(dice: &mut Dice, judge: &mut Judge) {
+    for turn in 0..1_000 {
+        let (mut case, number) = (valid(dice), turn % 8);
+        case.words[DISKS_INSTALLED] = 1 << number;
+        case.words[DISKS + DISK_WORDS * number + DISK_STATUS] = 1;
+        judge.case(&case, Some(false), &|| format!("valid but for disk {number}"));
+    }
+}
+
 /// All lengths, as the start of a valid image or with bytes behind it.
 fn lengths(dice: &mut Dice, judge: &mut Judge) -> u64 {
     let mut met = 0;
-    for length in 0..=600 {
+    for length in 0..=800 {
         for turn in 0..20 {
             let case = valid(dice);
             let mut bytes = if turn % 4 == 0 { dice.bytes(length) } else { case.bytes() };
@@ -114,6 +124,7 @@ pub fn compare(dice: &mut Dice) {
     some_bits_changed(dice, &mut judge);
     one_word_replaced(dice, &mut judge);
     let breach_counts = breaches(dice, &mut judge);
+    disks(dice, &mut judge);
     let lengths = lengths(dice, &mut judge);
     seen.report();
     one_bit.report();
@@ -122,7 +133,7 @@ pub fn compare(dice: &mut Dice) {
         at_least(name, *count, 500);
     }
     println!("rules: all");
-    at_least("lengths, of 601", lengths, 601);
+    at_least("lengths, of 801", lengths, 801);
     at_least("images", judge.images, LEAST_IMAGES);
     at_least("images that kept the rules", judge.kept, LEAST_IMAGES / 3);
     at_least("images that broke a rule", judge.broke, LEAST_IMAGES / 3);

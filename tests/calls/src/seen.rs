@@ -47,7 +47,7 @@ const CORNERS: [Corner; 27] = [
     ("8 bytes of paper", |case| case.eighth == 1),
     ("the most paper", |case| case.eighth == MOST_PAPER / 8),
     ("no journal", |case| case.slots == 0),
-    ("256 bytes of journal", |case| case.slots == 1),
+    ("512 bytes of journal", |case| case.slots == 1),
     ("the longest journal", |case| case.slots == MOST_SLOTS),
     ("nothing on hand, some slots", |case| case.slots != 0 && case.words[ON_HAND] == 0),
     ("every slot on hand", |case| case.slots != 0 && case.words[ON_HAND] == case.slots),
@@ -101,7 +101,7 @@ impl Seen {
         at_least("Random fields", self.randoms.len() as u64, 15);
         at_least("ExcCodes", self.exc_codes.len() as u64, 13);
         at_least("lengths of paper, of 8,193", self.papers.len() as u64, 8_193);
-        at_least("lengths of journal, of 65,537", self.journals.len() as u64, 50_000);
+        at_least("lengths of journal, of 32,769", self.journals.len() as u64, 30_000);
         for (place, count) in self.statuses.iter().enumerate() {
             at_least(format!("printers with STATUS {}", place + 1), *count, 10_000);
         }

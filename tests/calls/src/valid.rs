@@ -4,7 +4,7 @@ use crate::dice::Dice;
 use crate::fields::*;
 
 pub const MOST_PAPER: u32 = 65_536;
-pub const MOST_SLOTS: u32 = 65_536;
+pub const MOST_SLOTS: u32 = 32_768;
 pub const BUSY: u32 = 3;
 
 /// An image with the lengths of paper and journal that it is judged with.
@@ -35,7 +35,7 @@ impl Case {
     }
 
     pub fn journal(&self) -> u64 {
-        u64::from(self.slots) * 256
+        u64::from(self.slots) * RECORD_BYTES as u64
     }
 
     pub fn installed(&self, printer: usize) -> bool {

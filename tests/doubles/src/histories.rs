@@ -6,6 +6,7 @@ use crate::fields::clear_journal_place;
 use crate::met::Met;
 use crate::scene::{scene, STOPS};
 use crate::sides::{Buffers, Sides};
+use reference::layout::RECORD_BYTES;
 use reference::{Answer, TWO_MATCHES};
 
 struct History<'a> {
@@ -103,7 +104,7 @@ fn steps_back(dice: &mut Dice, on_hand: u64) -> u64 {
 pub fn one(dice: &mut Dice, bytes: &[u8], met: &mut Met) -> Result<(), Vec<String>> {
     let mut call = scene(dice, bytes);
     let slots = dice.pick(&[0, 1, 2, 3, 17, 17]);
-    call.journal = bytes[..256 * slots].to_vec();
+    call.journal = bytes[..RECORD_BYTES * slots].to_vec();
     // Nothing is on hand at the start.
     clear_journal_place(&mut call.image);
     let first = call.budget;

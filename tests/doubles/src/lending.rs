@@ -18,5 +18,5 @@ pub fn take_back(lent: &mut Lent, steps: u64) -> u64 {
         return archive::take_back(lent, steps);
     }
     let Slices { image, ram, paper, journal, index, .. } = lent.slices();
-    reference::take_back(image, ram, paper, journal, index, steps).packed()
+    reference::diskless::take_back(image, ram, paper, journal, index, steps).packed()
 }

@@ -71,7 +71,7 @@ use report::different;
 use std::process::exit;
 
 /// Enough for the longest of the lent buffers.
-const MOST_BYTES: usize = 2 * 4_096;
+const MOST_BYTES: usize = 4 * 4_096;
 
 fn main() {
     let seed = arguments::seed();

@@ -10,6 +10,7 @@ use crate::lines;
 use crate::look::RAM;
 use crate::table::{self, Spot};
 use crate::words::{load, no_access, store, BASE, HANDLER, TARGET};
+use reference::layout::RECORD_BYTES;
 use reference::{encode, Machine, Status, IMAGE_BYTES};
 
 /// Numbers for yes; the low half or the low byte of some is 0.
@@ -88,7 +89,7 @@ fn buffers(dice: &mut Dice, bytes: &[u8], frames: u32) -> Call {
         bootstrap: rom,
         ram: bytes[..0x1000 * frames as usize].to_vec(),
         paper: bytes[..paper].to_vec(),
-        journal: bytes[..256 * slots].to_vec(),
+        journal: bytes[..RECORD_BYTES * slots].to_vec(),
         index: empty_index(0x1000 * frames as usize),
         budget: 0,
         stop: if dice.chance(2) { 0 } else { dice.pick(&STOPS) },

@@ -4,6 +4,7 @@ use crate::faults::Fault::{self, *};
 use crate::lent::Slices;
 use crate::look::look;
 use crate::wrong_halts::halts;
+use reference::layout::RECORD_BYTES;
 use reference::{decode, encode, step, Answer, Machine, Memory, NoRecord};
 use reference::{BUDGET_SPENT, EXCEPTION, TWO_MATCHES};
 
@@ -18,19 +19,20 @@ impl Slices<'_> {
         halts(fault, &machine, &look, stop)
     }
 
-    fn memory(&mut self) -> Memory {
+    fn memory(&mut self) -> Memory<'_> {
         Memory {
             execution_rom: self.execution,
             bootstrap_rom: self.bootstrap,
             ram: self.ram,
             paper: self.paper,
+            disks: reference::no_disks(),
         }
     }
 
     /// One step, also where a run would stop before it; then without a record.
     fn step(&mut self, stop: u64) -> u8 {
         let Slices { image, execution, bootstrap, ram, paper, journal, index } = self;
-        let answer = reference::run_with_records(
+        let answer = reference::diskless::run_with_records(
             image, execution, bootstrap, ram, paper, journal, index, 1, stop,
         );
         if answer.reason != TWO_MATCHES {
@@ -49,8 +51,8 @@ impl Slices<'_> {
     /// What a halt must not do.
     fn spoil(&mut self, fault: Fault) {
         let mut machine = self.machine();
-        let slots = (self.journal.len() / 256) as u32;
-        let slot = 256 * machine.next_slot as usize;
+        let slots = (self.journal.len() / RECORD_BYTES) as u32;
+        let slot = RECORD_BYTES * machine.next_slot as usize;
         match fault {
             ClockMoves => machine.clock = machine.clock.wrapping_add(1),
             RandomMoves if machine.random > 0x100 => machine.random -= 0x100,
@@ -68,7 +70,7 @@ impl Slices<'_> {
             PcMoves => machine.pc = machine.next_pc,
             OnHandMoves if machine.on_hand < slots => machine.on_hand += 1,
             NextSlotMoves if slots > 1 => machine.next_slot = (machine.next_slot + 1) % slots,
-            RecordWritten if slots > 0 => self.journal[slot..slot + 256].fill(0),
+            RecordWritten if slots > 0 => self.journal[slot..slot + RECORD_BYTES].fill(0),
             _ => {}
         }
         encode(&machine, self.image);

@@ -2,10 +2,9 @@
 //! and the bytes that its run and its take-back leave after as many steps at once.
 
 use crate::stub::Station;
-use reference::{
-    decode, encode, run, run_with_records, step, step_meets_two, take_back, Machine, Memory,
-    Recorder,
-};
+use reference::diskless::{run, run_with_records, take_back};
+use reference::layout::RECORD_BYTES;
+use reference::{decode, encode, step, step_meets_two, Machine, Memory, Recorder};
 use std::collections::VecDeque;
 
 /// What a step found, so that it can be undone without its record.
@@ -71,7 +70,7 @@ impl Past {
         let machine = decode(&due.image);
         assert_eq!(machine.on_hand, 0);
         Past {
-            slots: due.journal.len() / 256,
+            slots: due.journal.len() / RECORD_BYTES,
             machine,
             ram: due.ram.clone(),
             paper: due.paper.clone(),
@@ -81,12 +80,13 @@ impl Past {
         }
     }
 
-    fn memory(&mut self) -> (&mut Machine, Memory) {
+    fn memory(&mut self) -> (&mut Machine, Memory<'_>) {
         let memory = Memory {
             execution_rom: &self.due.execution,
             bootstrap_rom: &self.due.bootstrap,
             ram: &mut self.ram,
             paper: &mut self.paper,
+            disks: reference::no_disks(),
         };
         (&mut self.machine, memory)
     }
@@ -218,6 +218,7 @@ impl Past {
             bootstrap_rom: &self.due.bootstrap,
             ram: &mut ram,
             paper: &mut paper,
+            disks: reference::no_disks(),
         };
         let mut coming = Coming::default();
         for _ in 0..steps {

@@ -9,9 +9,10 @@ use crate::points::{Points, Watch};
 use crate::program::*;
 use crate::stub::{Event, Station, Stub, Wants, FULL_ROOMS};
 use crate::talk::{self, Nudge};
-use reference::{decode, encode, reset, IMAGE_BYTES};
+use reference::diskless::reset;
+use reference::{decode, encode, IMAGE_BYTES};
 
-const RECORD_BYTES: usize = 256;
+const RECORD_BYTES: usize = 512;
 const FRAME: usize = 4_096;
 
 pub const SLOTS: [usize; 6] = [0, 1, 3, 17, 1_100, 5_000];

@@ -4,6 +4,7 @@ use crate::faults::Fault;
 use crate::stub::Stub;
 use crate::talk::Told;
 use crate::world::World;
+use reference::layout::RECORD_BYTES;
 use reference::{decode, encode, Machine};
 
 const STACK: u32 = 29;
@@ -75,10 +76,10 @@ pub fn leave(fault: Option<Fault>, world: &mut World) {
             with_machine(stub, |m| m.next_slot = (m.next_slot + 1) % slots)
         }
         Fault::OldestSlotOverwritten if now.on_hand > 0 => {
-            flip(stub.journal.content_mut(), oldest as usize * 256 + 8)
+            flip(stub.journal.content_mut(), oldest as usize * RECORD_BYTES + 8)
         }
         Fault::UnusedSlotWritten if now.on_hand < slots => {
-            flip(stub.journal.content_mut(), now.next_slot as usize * 256)
+            flip(stub.journal.content_mut(), now.next_slot as usize * RECORD_BYTES)
         }
         Fault::IndexEntryLost => {
             let mut entries = stub.index.content_mut().chunks_exact_mut(16);

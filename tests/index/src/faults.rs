@@ -30,7 +30,7 @@ faults! {
     DistanceOfAnyEntry,
     DistanceCutToItsLowHalf,
     DistanceOfOneByte,
-    DistanceOfFifteenBits,
+    DistanceOfFourteenBits,
     DistanceInTheLastWord,
     DistanceBehindTheMark,
     AnyFirstWordNames,

@@ -5,6 +5,7 @@ use crate::entry::{self, ENTRY_BYTES};
 use crate::history::{clock, History};
 use crate::program::places;
 use crate::record::{at, set, DISTANCE, KIND, OLD, RAM_WORD, WHICH};
+use reference::layout::RECORD_BYTES;
 
 /// A clock that a step near now has, the one that drops off next among them.
 fn near(dice: &mut Dice, clock: u64, slots: u32) -> u64 {
@@ -136,7 +137,7 @@ impl History<'_> {
         let slot = ((machine.next_slot + slots - age) % slots) as usize;
         let mut record = at(&self.sides.theirs.journal, slot).to_vec();
         if dice.chance(8) {
-            record = dice.bytes(256);
+            record = dice.bytes(RECORD_BYTES);
         }
         let meant = spoil(dice, &mut record, (self.frames * entry::FRAME) as u32, slots);
         self.sides.set_record(slot, &record);

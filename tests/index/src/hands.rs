@@ -4,7 +4,8 @@ use crate::guarded::Guarded;
 use crate::lending;
 use crate::report::hex;
 use crate::sides::{Buffers, Sides};
-use reference::{decode, encode, last_write, Answer, Machine};
+use reference::diskless::last_write;
+use reference::{decode, encode, Answer, Machine};
 
 impl Sides {
     /// The question, with what the answer's buffer holds before; the answer and

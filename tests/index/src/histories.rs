@@ -8,9 +8,11 @@ use crate::history::{clock, Checked, History};
 use crate::met::Met;
 use crate::pool::Pool;
 use crate::program::{places, rom};
-use reference::{reset, IMAGE_BYTES};
+use reference::diskless::reset;
+use reference::layout::RECORD_BYTES;
+use reference::IMAGE_BYTES;
 
-pub const LONGEST: usize = 65_536;
+pub const LONGEST: usize = 32_768;
 pub const MOST_FRAMES: usize = 4_096;
 
 const STOPS: [u64; 3] = [1, 1 << 32, u64::MAX];
@@ -48,7 +50,7 @@ fn scene(dice: &mut Dice, pool: &Pool, slots: usize, frames: usize) -> Call {
         bootstrap: rom(dice, frames, slots == LONGEST),
         ram,
         paper: pool.bytes(dice, 64),
-        journal: pool.bytes(dice, 256 * slots),
+        journal: pool.bytes(dice, RECORD_BYTES * slots),
         index: pool.bytes(dice, ENTRY_BYTES * frames),
         budget: 0,
         stop: 0,

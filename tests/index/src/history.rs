@@ -33,7 +33,7 @@ pub struct History<'a> {
 }
 
 impl History<'_> {
-    pub fn new(call: Call, met: &mut Met) -> History {
+    pub fn new(call: Call, met: &mut Met) -> History<'_> {
         let (slots, frames) = (call.slots(), call.index.len() / 16);
         let past = Past::new(slots, &call.ram);
         let sides = Sides::new(call);

@@ -11,7 +11,7 @@ pub struct Kept {
     pub changes: u64,
     pub equal_stores: u64,
     pub distances: u64,
-    /// That need more than 8, and all 16 bits.
+    /// That need more than 8, and all 15 bits.
     pub wide: [u64; 2],
     /// An entry that named a step that is not on hand below.
     pub out_of_reach: u64,
@@ -145,7 +145,7 @@ fn distance(fault: Fault, before: Option<u64>, taken: &Taken, met: &mut Kept) ->
     let on_hand = (1..=below).contains(&far);
     met.distances += u64::from(on_hand);
     met.wide[0] += u64::from(on_hand && far > 0xFF);
-    met.wide[1] += u64::from(on_hand && far > 0x7FFF);
+    met.wide[1] += u64::from(on_hand && far > 0x3FFF);
     met.out_of_reach += u64::from(!on_hand);
     match fault {
         DistanceLeftOut => 0,
@@ -155,7 +155,7 @@ fn distance(fault: Fault, before: Option<u64>, taken: &Taken, met: &mut Kept) ->
         DistanceOfAnyEntry => far.min(65_535) as u32,
         DistanceCutToItsLowHalf => far as u32 & 0xFFFF,
         DistanceOfOneByte if on_hand => far as u32 & 0xFF,
-        DistanceOfFifteenBits if on_hand => far as u32 & 0x7FFF,
+        DistanceOfFourteenBits if on_hand => far as u32 & 0x3FFF,
         _ if on_hand => far as u32,
         _ => 0,
     }

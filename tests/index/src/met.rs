@@ -146,7 +146,7 @@ impl Met {
             counts.met("steps without slots", kept.without_slots, 50_000 * least);
         }
         println!("index: only on long journals");
-        for (bits, count) in [8, 15].iter().zip(self.by_keeping[1].wide) {
+        for (bits, count) in [8, 14].iter().zip(self.by_keeping[1].wide) {
             counts.met(format!("distances of more than {bits} bits"), count, 100);
         }
         let any = &self.by_keeping[0];

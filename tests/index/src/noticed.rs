@@ -16,7 +16,7 @@ const MOST: u64 = 2_000;
 const REFUSALS: u64 = 4;
 
 /// What shows only on long journals.
-const LONG: [Fault; 2] = [Fault::DistanceOfOneByte, Fault::DistanceOfFifteenBits];
+const LONG: [Fault; 2] = [Fault::DistanceOfOneByte, Fault::DistanceOfFourteenBits];
 const MOST_LONG: u64 = 20;
 
 /// Any combination of numbers that apply, or a value at an edge.

@@ -62,8 +62,13 @@ impl Past {
         let (mut ram, mut paper) = (self.ram.clone(), before.paper.clone());
         for _ in 0..steps {
             let [execution_rom, bootstrap_rom] = roms;
-            let mut memory =
-                Memory { execution_rom, bootstrap_rom, ram: &mut ram, paper: &mut paper };
+            let mut memory = Memory {
+                execution_rom,
+                bootstrap_rom,
+                ram: &mut ram,
+                paper: &mut paper,
+                disks: reference::no_disks(),
+            };
             step(&mut machine, &mut memory, &mut NoRecord);
             let change = change(&self.ram, &ram);
             self.put(change, |change| change.new);

@@ -15,6 +15,7 @@ use crate::record::{newest, set, DISTANCE, KIND, RAM_WORD};
 use crate::sides::Sides;
 use crate::wild::fitted;
 use crate::wrong::{values, BOOTSTRAP, BUDGET, EXECUTION, IMAGE, JOURNAL, PAPER, RAM};
+use reference::layout::RECORD_BYTES;
 use reference::{decode, Answer};
 
 pub const RESET: usize = 0;
@@ -79,7 +80,7 @@ impl Trial {
 
 /// Image and index alone are lent to a reset.
 fn reset(dice: &mut Dice, pool: &Pool, trial: &Trial) -> Tried {
-    let image = if trial.has(5) { dice.pick(&[0, 1, 501, 508, 510]) } else { IMAGE_BYTES };
+    let image = if trial.has(5) { dice.pick(&[0, 1, 509, 740, 742]) } else { IMAGE_BYTES };
     let index = match trial.index {
         Some(length) => length,
         None if trial.has(10) => dice.pick(&[0, 1, 8, 15, 17, 24, 65_535, 65_537, 65_552]),
@@ -117,7 +118,7 @@ fn run(dice: &mut Dice, pool: &Pool, trial: &Trial) -> Tried {
     let wrong: u32 = bits.iter().filter(|(row, _)| trial.has(*row)).map(|(_, bit)| bit).sum();
     let mut values = values(dice, wrong | image_bit);
     values[RAM] = trial.ram.unwrap_or(values[RAM]);
-    let slots = (values[JOURNAL] / 256).min(65_536) as u32;
+    let slots = (values[JOURNAL] as usize / RECORD_BYTES).min(32_768) as u32;
     let paper = values[PAPER].min(65_536) as u32;
     let mut case = fitted(dice, &Lengths { ram: 4_096, execution: 4, bootstrap: 4, paper, slots });
     case.words[PC] |= 1;
@@ -156,7 +157,7 @@ fn judged(dice: &mut Dice, pool: &Pool, trial: &Trial) -> (Call, u64) {
     let lengths = loop {
         let mut lengths = lengths(dice, wrong);
         lengths[0] = trial.ram.unwrap_or(lengths[0]);
-        if trial.has(4) || lengths[2] >= 256 {
+        if trial.has(4) || lengths[2] >= RECORD_BYTES as u64 {
             break lengths;
         }
     };
@@ -171,7 +172,7 @@ fn judged(dice: &mut Dice, pool: &Pool, trial: &Trial) -> (Call, u64) {
     if let Some(distance) = trial.distance {
         let machine = decode(&call.image);
         let newest = newest(machine.next_slot, call.slots(), 1).next().expect("one is on hand");
-        let record = &mut call.journal[256 * newest..][..256];
+        let record = &mut call.journal[RECORD_BYTES * newest..][..RECORD_BYTES];
         set(record, KIND, RAM_WORD);
         set(record, DISTANCE, distance);
     }

@@ -6,7 +6,9 @@ use crate::faults::Fault::{self, *};
 use crate::lent::{empty_index, Slices};
 use crate::program::RAM;
 use crate::record::{at, newest, word, KIND, OLD, RAM_WORD, WHICH};
-use reference::{decode, last_write, take_back, Answer, Machine};
+use reference::diskless::{last_write, take_back};
+use reference::layout::RECORD_BYTES;
+use reference::{decode, Answer, Machine};
 
 struct Write {
     steps: u32,
@@ -31,7 +33,7 @@ fn slots_of(fault: Fault, machine: &Machine, slots: usize) -> Vec<usize> {
 fn writes(fault: Fault, machine: &Machine, ram: &[u8], journal: &[u8], place: u32) -> Vec<Write> {
     let mut ram = ram.to_vec();
     let mut found = Vec::new();
-    for (steps, slot) in (1..).zip(slots_of(fault, machine, journal.len() / 256)) {
+    for (steps, slot) in (1..).zip(slots_of(fault, machine, journal.len() / RECORD_BYTES)) {
         let record = at(journal, slot);
         let (at, old) = (word(record, WHICH), word(record, OLD));
         if word(record, KIND) != RAM_WORD || at as usize >= ram.len() / 4 * 4 || at % 4 != 0 {

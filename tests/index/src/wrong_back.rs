@@ -5,12 +5,13 @@ use crate::faults::Fault::{self, *};
 use crate::keep::{self, Kept};
 use crate::lent::{empty_index, Slices};
 use crate::record::{at, newest, set, word, DISTANCE, KIND, RAM_WORD};
+use reference::layout::RECORD_BYTES;
 use reference::{decode, Answer};
 
 /// The journal as a take-back sees it that judges distances in another way.
 fn mended(fault: Fault, journal: &[u8]) -> Vec<u8> {
     let mut journal = journal.to_vec();
-    for record in journal.chunks_exact_mut(256).filter(|it| word(it, KIND) == RAM_WORD) {
+    for record in journal.chunks_exact_mut(RECORD_BYTES).filter(|it| word(it, KIND) == RAM_WORD) {
         let distance = word(record, DISTANCE);
         match fault {
             BackTakesAnyDistance => set(record, DISTANCE, distance & 0xFFFF),
@@ -30,7 +31,7 @@ fn keep_index(
     met: &mut Kept,
 ) {
     let before = decode(image);
-    let slots = newest(before.next_slot, journal.len() / 256, steps as usize);
+    let slots = newest(before.next_slot, journal.len() / RECORD_BYTES, steps as usize);
     let mut order: Vec<(u32, usize)> = (0..).zip(slots).collect();
     match fault {
         OnlyTheNewestTakenBack => order.truncate(1),
@@ -76,7 +77,7 @@ pub fn take_back(fault: Fault, lent: Slices, steps: u64, met: &mut Kept) -> Answ
     if goes_on {
         given_up.resize(due, 0);
     }
-    let answer = reference::take_back(image, ram, paper, &journal, &mut given_up, steps);
+    let answer = reference::diskless::take_back(image, ram, paper, &journal, &mut given_up, steps);
     let wrong = index.len() != due;
     if answer.number != 0 {
         return Answer::refused(number(fault, answer.number, wrong));

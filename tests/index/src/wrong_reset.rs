@@ -21,10 +21,10 @@ fn takes(fault: Fault, length: usize) -> bool {
 pub fn reset(fault: Fault, lent: Slices, [scale, delay, installed]: [u64; 3]) -> Answer {
     let Slices { image, index, .. } = lent;
     let before = index.to_vec();
-    let mut answer = reference::reset(image, index, scale, delay, installed);
+    let mut answer = reference::diskless::reset(image, index, scale, delay, installed);
     let wrong = index.is_empty() || index.len() % ENTRY_BYTES != 0 || index.len() > MOST;
     if answer.number == 10 && takes(fault, index.len()) {
-        answer = reference::reset(image, &mut [0; ENTRY_BYTES], scale, delay, installed);
+        answer = reference::diskless::reset(image, &mut [0; ENTRY_BYTES], scale, delay, installed);
         index.fill(0);
     }
     match fault {

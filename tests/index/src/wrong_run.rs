@@ -6,7 +6,9 @@ use crate::keep::{self, Kept, Taken};
 use crate::lent::{empty_index, Slices};
 use crate::record::{at, set, word, DISTANCE, KIND, RAM_WORD, WHICH};
 use crate::{entry, record};
-use reference::{decode, run_with_records, Answer, BUDGET_SPENT, EXCEPTION, TWO_MATCHES};
+use reference::diskless::run_with_records;
+use reference::layout::RECORD_BYTES;
+use reference::{decode, Answer, BUDGET_SPENT, EXCEPTION, TWO_MATCHES};
 
 const MOST_BUDGET: u64 = 1_000_000;
 
@@ -38,7 +40,7 @@ fn without_slots(fault: Fault, lent: &mut Slices, clock: u64, met: &mut Kept) {
 fn step(fault: Fault, lent: &mut Slices, keeps: bool, met: &mut Kept) -> Answer {
     let before = decode(lent.image);
     let clock = before.clock.wrapping_add(1);
-    let slots = (lent.journal.len() / 256) as u32;
+    let slots = (lent.journal.len() / RECORD_BYTES) as u32;
     let slot = before.next_slot as usize;
     let dropped = if slots == 0 { Vec::new() } else { at(lent.journal, slot).to_vec() };
     let answer = reference(lent, 1);
@@ -49,7 +51,7 @@ fn step(fault: Fault, lent: &mut Slices, keeps: bool, met: &mut Kept) -> Answer 
         without_slots(fault, lent, clock, met);
         return answer;
     }
-    let record = &mut lent.journal[256 * slot..][..256];
+    let record = &mut lent.journal[RECORD_BYTES * slot..][..RECORD_BYTES];
     if word(record, KIND) == RAM_WORD {
         set(record, DISTANCE, 0);
     }

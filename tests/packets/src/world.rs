@@ -5,7 +5,9 @@ use crate::paged::Edge;
 use crate::stub::{
     Rooms, Station, Stub, FULL_ROOMS, KEPT_BYTES, OUT_BYTES, PACKET_BYTES, REPLY_BYTES,
 };
-use reference::{reset, run_with_records, IMAGE_BYTES};
+use reference::diskless::{reset, run_with_records};
+use reference::layout::RECORD_BYTES;
+use reference::IMAGE_BYTES;
 
 /// How much of a session is beyond doubt.
 #[derive(Clone, Copy, PartialEq, Eq, Debug)]
@@ -55,7 +57,7 @@ pub fn station(dice: &mut Dice, trust: Trust) -> Station {
         bootstrap: bootstrap(dice),
         ram: vec![0; frames * 4_096],
         paper: vec![0; 8 * dice.pick(&[0, 1, 10])],
-        journal: dice.bytes(slots * 256),
+        journal: dice.bytes(slots * RECORD_BYTES),
         index: vec![0; frames * 16],
     };
     reset(&mut station.image, &mut station.index, 1, u64::from(dice.between(1, 9)), 0x81);

@@ -6,6 +6,7 @@ use crate::dice::Dice;
 use crate::lent::empty_index;
 use crate::look::{DIRTY, GLOBAL, RAM, VALID};
 use crate::words::*;
+use reference::layout::RECORD_BYTES;
 use reference::{encode, Entry, Machine, Status, IMAGE_BYTES};
 use std::ops::RangeInclusive;
 
@@ -176,7 +177,7 @@ pub fn scene(dice: &mut Dice) -> Call {
         index: empty_index(ram.len()),
         ram,
         paper: Vec::new(),
-        journal: vec![0xA5; 256 * slots],
+        journal: vec![0xA5; RECORD_BYTES * slots],
         budget: 0,
         stop: 0,
     }

@@ -5,6 +5,7 @@ use crate::faults::Fault::{self, *};
 use crate::lent::Slices;
 use crate::look::{look, Access, Kind, Look, ASID, DIRTY, GLOBAL, PAGE, RAM, VALID};
 use crate::stale::{asked, Kept, Stale};
+use reference::layout::RECORD_BYTES;
 use reference::layout::STATUS;
 use reference::{decode, encode, Answer, Entry, Machine, Memory, Status};
 use reference::{BUDGET_SPENT, EXCEPTION, TWO_MATCHES};
@@ -71,6 +72,7 @@ impl Slices<'_> {
             bootstrap_rom: self.bootstrap,
             ram: self.ram,
             paper: self.paper,
+            disks: reference::no_disks(),
         }
     }
 
@@ -105,10 +107,10 @@ impl Slices<'_> {
             }
         }
         let look = self.look(&taken);
-        let record = 256 * machine.next_slot as usize + 4 * STATUS;
+        let record = RECORD_BYTES * machine.next_slot as usize + 4 * STATUS;
         encode(&taken, self.image);
         let Slices { image, execution, bootstrap, ram, paper, journal, index } = self;
-        let answer = reference::run_with_records(
+        let answer = reference::diskless::run_with_records(
             image, execution, bootstrap, ram, paper, journal, index, 1, 1,
         );
         if answer.reason == TWO_MATCHES {

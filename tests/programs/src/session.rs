@@ -4,7 +4,8 @@ use crate::dice::Dice;
 use crate::lavushmir;
 use crate::mode::Mode;
 use crate::station::{Roms, Station};
-use reference::{reset, run_with_records, Machine, EXCEPTION, TWO_MATCHES};
+use reference::diskless::{reset, run_with_records};
+use reference::{Machine, EXCEPTION, TWO_MATCHES};
 
 const INTERRUPT: u32 = 0;
 const MISS_ON_LOAD: u32 = 2;

@@ -3,6 +3,7 @@
 use crate::dice::Dice;
 use crate::elf::Segment;
 use crate::mode::{Setting, FRAMES, PROGRAM_FRAMES};
+use reference::layout::RECORD_BYTES;
 use reference::{decode, Machine, IMAGE_BYTES};
 
 pub const RAM: u32 = 0x2000_0000;
@@ -41,7 +42,7 @@ impl Station {
             image: dice.bytes(IMAGE_BYTES),
             ram: dice.bytes(FRAMES as usize * FRAME),
             paper: dice.bytes(PAPER),
-            journal: dice.bytes(256 * slots),
+            journal: dice.bytes(RECORD_BYTES * slots),
             index: dice.bytes(16 * FRAMES as usize),
         };
         station.ram[..FRAME].fill(0);

@@ -1,6 +1,7 @@
 //! The same cases under the reference emulator.
 
-use reference::{decode, encode, reset, run, Machine, Status, EXCEPTION, IMAGE_BYTES};
+use reference::diskless::{reset, run};
+use reference::{decode, encode, Machine, Status, EXCEPTION, IMAGE_BYTES};
 
 use crate::case::{
     block_at, bytes_of, words_of, Case, State, BLOCK_WORDS, CODE_AT, CODE_WORDS, STATES_AT,

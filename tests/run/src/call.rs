@@ -2,6 +2,7 @@
 
 use crate::guarded::Guarded;
 use crate::lent::Lent;
+use reference::layout::RECORD_BYTES;
 use reference::Memory;
 
 #[derive(Clone)]
@@ -44,7 +45,7 @@ impl Outcome {
 
 impl Call {
     pub fn slots(&self) -> usize {
-        self.journal.len() / 256
+        self.journal.len() / RECORD_BYTES
     }
 
     /// To be lent to the archive, again and again.
@@ -62,7 +63,13 @@ impl Call {
 
     /// For the reference's steps: the ROMs as they are, RAM and paper as copies.
     pub fn memory<'a>(&'a self, ram: &'a mut [u8], paper: &'a mut [u8]) -> Memory<'a> {
-        Memory { execution_rom: &self.execution, bootstrap_rom: &self.bootstrap, ram, paper }
+        Memory {
+            execution_rom: &self.execution,
+            bootstrap_rom: &self.bootstrap,
+            ram,
+            paper,
+            disks: reference::no_disks(),
+        }
     }
 
     /// What the reference answers and leaves, with this budget.
@@ -75,7 +82,7 @@ impl Call {
             journal: self.journal.clone(),
             index: self.index.clone(),
         };
-        let answer = reference::run_with_records(
+        let answer = reference::diskless::run_with_records(
             &mut outcome.image,
             &self.execution,
             &self.bootstrap,

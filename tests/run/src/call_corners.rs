@@ -33,7 +33,7 @@ pub const CALLS: [CallCorner; 22] = [
     ("runs without a journal", 10_000, |call, _| call.slots() == 0),
     ("runs with one slot", 10_000, |call, _| call.slots() == 1),
     ("runs with 2, 3, 17 or 64 slots", 50_000, |call, _| [2, 3, 17, 64].contains(&call.slots())),
-    ("runs with the longest journal", 5, |call, _| call.slots() == 65_536),
+    ("runs with the longest journal", 5, |call, _| call.slots() == 32_768),
     ("runs with one frame of RAM", 50_000, |call, _| call.ram.len() == 4_096),
     ("runs with 2 to 4 frames", 50_000, |call, _| (8_192..=16_384).contains(&call.ram.len())),
     ("runs with more RAM", 100, |call, _| call.ram.len() > 16_384),

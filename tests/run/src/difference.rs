@@ -74,6 +74,7 @@ fn before_last_step(call: &Call, step: u64) -> Vec<String> {
         bootstrap_rom: &there.bootstrap,
         ram: &mut there.ram,
         paper: &mut there.paper,
+        disks: reference::no_disks(),
     };
     let word = word_at_pc(&machine, &memory, &fetch);
     let shown = word.map_or("none".to_string(), |word| format!("{word:#010x}"));

@@ -22,7 +22,7 @@ pub fn lengths(dice: &mut Dice) -> Lengths {
         _ => dice.between(2, 4),
     };
     let slots = match dice.below(20_000) {
-        0 | 1 => 65_536,
+        0 | 1 => 32_768,
         2..=20 => dice.between(65, 2_000),
         _ => dice.pick(&[0, 1, 1, 2, 2, 3, 3, 17, 17, 64]),
     };

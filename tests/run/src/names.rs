@@ -2,12 +2,15 @@
 //! docs/RECORD.md.
 
 use crate::look::RAM;
-use reference::layout::{OLD_LOW, PAPER_BYTES, PRINTERS, PRINTER_WORDS, UNUSED};
+use reference::layout::{
+    DISKS, DISKS_PENDING, DISK_WORDS, DISTANCES, KIND, PAPER_BYTES, PRINTED, PRINTERS,
+    PRINTER_WORDS, RECORD_BYTES, UNUSED,
+};
 
 const LAST_PAPER_BYTE: usize = PAPER_BYTES + 7;
 
-/// The words before those of the printers.
-const FIRST: [&str; OLD_LOW + 1] = [
+/// The words before those of the paper and the printers.
+const FIRST: [&str; PRINTED + 1] = [
     "HI",
     "LO",
     "PC",
@@ -25,30 +28,37 @@ const FIRST: [&str; OLD_LOW + 1] = [
     "timer",
     "pending map",
     "printers that wrote",
-    "",
-    "",
-    "kind",
-    "which",
-    "old",
-    "old low, or distance",
 ];
 
 const PRINTER: [&str; PRINTER_WORDS] = ["STATUS", "COMMAND", "DATA0", "ticks left", "paper count"];
 
+/// From the kind on, and the disks' pending map behind them.
+const KINDS: [&str; DISKS - KIND] =
+    ["kind", "which", "old", "old low, distance or STATUS", "disks' pending map"];
+
+const DISK: [&str; DISK_WORDS] = ["how, cylinder", "ticks and words left", "RAM place", "bytes"];
+
 fn record_byte(byte: usize) -> String {
     let word = byte / 4;
-    if (PAPER_BYTES..=LAST_PAPER_BYTE).contains(&byte) {
-        return format!("paper byte of printer {}", byte - PAPER_BYTES);
+    match word {
+        0..=PRINTED => FIRST[word].to_string(),
+        _ if byte <= LAST_PAPER_BYTE => format!("paper byte of printer {}", byte - PAPER_BYTES),
+        PRINTERS..KIND => {
+            let place = word - PRINTERS;
+            format!("printer {}'s {}", place / PRINTER_WORDS, PRINTER[place % PRINTER_WORDS])
+        }
+        KIND..=DISKS_PENDING => KINDS[word - KIND].to_string(),
+        DISKS..DISTANCES => {
+            let place = word - DISKS;
+            format!("disk {}'s {}", place / DISK_WORDS, DISK[place % DISK_WORDS])
+        }
+        DISTANCES..UNUSED => format!("disk {}'s distance", (byte - 4 * DISTANCES) / 2),
+        _ => "unused".to_string(),
     }
-    if (PRINTERS..UNUSED).contains(&word) {
-        let place = word - PRINTERS;
-        return format!("printer {}'s {}", place / PRINTER_WORDS, PRINTER[place % PRINTER_WORDS]);
-    }
-    FIRST.get(word).unwrap_or(&"unused").to_string()
 }
 
 pub fn journal_byte(place: usize) -> String {
-    let (slot, byte) = (place / 256, place % 256);
+    let (slot, byte) = (place / RECORD_BYTES, place % RECORD_BYTES);
     format!("journal, slot {slot}, byte {byte} (word {}, {})", byte / 4, record_byte(byte))
 }
 

@@ -11,6 +11,7 @@ use crate::scene::STOPS;
 use crate::valid::Case;
 use crate::wild::fitted;
 use crate::wrong::*;
+use reference::layout::RECORD_BYTES;
 
 const PC: usize = 33;
 
@@ -33,7 +34,7 @@ pub fn image(dice: &mut Dice, values: &[u64; 7]) -> Case {
         execution: 4,
         bootstrap: 4,
         paper: values[PAPER].min(65_536) as u32,
-        slots: (values[JOURNAL] / 256).min(65_536) as u32,
+        slots: (values[JOURNAL] as usize / RECORD_BYTES).min(32_768) as u32,
     };
     let mut case = fitted(dice, &lengths);
     case.words[PC] |= 1;

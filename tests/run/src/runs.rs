@@ -37,7 +37,7 @@ pub fn compare(seed: u64, runs: u64) -> Seen {
     let mut long_runs = 0;
     for run in 0..runs {
         let mut call = scene(&mut Dice::of(seed, run), &pool);
-        assert!(keeps_rules(&call.image, call.paper.len(), call.journal.len()));
+        assert!(keeps_rules(&call.image, call.ram.len(), call.paper.len(), call.journal.len()));
         cut(&mut call, &mut long_runs);
         let expected = call.by_reference(call.budget);
         let got = archive::run(&call, call.budget);

@@ -7,6 +7,7 @@ use crate::lengths::{lengths, Lengths};
 use crate::lent::empty_index;
 use crate::pool::Pool;
 use crate::{code, control, printers, registers, table, wild};
+use reference::layout::RECORD_BYTES;
 use reference::{encode, Machine, IMAGE_BYTES};
 
 /// Numbers for yes; the low half or the low byte of some is 0.
@@ -44,7 +45,7 @@ fn buffers(dice: &mut Dice, pool: &Pool, lengths: &Lengths) -> Call {
         bootstrap: pool.code(dice, lengths.bootstrap as usize),
         ram: pool.code(dice, lengths.ram as usize),
         paper: pool.bytes(dice, lengths.paper as usize),
-        journal: pool.bytes(dice, lengths.slots as usize * 256),
+        journal: pool.bytes(dice, lengths.slots as usize * RECORD_BYTES),
         index: empty_index(lengths.ram as usize),
         budget: budget(dice, stop),
         stop,

@@ -52,10 +52,10 @@ pub const CHOICES: [Choices; 7] = [
     },
     Choices {
         name: "journal", row: 4,
-        right: &[0, 256, 512, 768, 4_352, MOST_JOURNAL],
+        right: &[0, 512, 1_024, 1_536, 8_704, MOST_JOURNAL],
         wrong: &[
-            1, 8, 100, 128, 255, 257, 384,
-            MOST_JOURNAL - 128, MOST_JOURNAL + 1, MOST_JOURNAL + 256,
+            1, 8, 128, 256, 511, 513, 768,
+            MOST_JOURNAL - 256, MOST_JOURNAL + 1, MOST_JOURNAL + 256, MOST_JOURNAL + 512,
         ],
         cheap: (5, 7),
     },

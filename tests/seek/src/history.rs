@@ -5,10 +5,11 @@ use crate::archive::Mark;
 use crate::dice::Dice;
 use crate::past::{Moment, Past};
 use crate::program::{rom, PLACES};
-use reference::{decode, reset, run, run_with_records, take_back, IMAGE_BYTES};
+use reference::diskless::{reset, run, run_with_records, take_back};
+use reference::{decode, IMAGE_BYTES};
 
 const RAM_BYTES: usize = 4_096;
-const RECORD_BYTES: usize = 256;
+const RECORD_BYTES: usize = 512;
 const INDEX_BYTES: usize = 16;
 
 pub struct History {

@@ -15,7 +15,7 @@ use crate::wild::fitted;
 
 const MOST_LINES: usize = 12;
 
-pub const SORTS: [&str; 7] = [
+pub const SORTS: [&str; 8] = [
     "random bytes",
     "random words under the right head",
     "valid images",
@@ -23,6 +23,7 @@ pub const SORTS: [&str; 7] = [
     "a rule broken alone",
     "lengths of the two images",
     "rows 3, 4 and 5 in all ways",
+    "images of the first version",
 ];
 
 struct Conversion {
@@ -39,9 +40,10 @@ fn lengths(dice: &mut Dice) -> Lengths {
         0 => 65_536,
         _ => dice.pick(&[0, 8, 8, 16, 64, 800]),
     };
+    // Of the old length: half of these journals have no whole number of new ones.
     let slots = match dice.below(4_000) {
         0 => 65_536,
-        _ => dice.pick(&[0, 1, 2, 3, 17]),
+        _ => dice.pick(&[0, 1, 2, 3, 16, 17]),
     };
     Lengths { ram: 4_096, execution: 4, bootstrap: 4, paper, slots }
 }
@@ -51,7 +53,7 @@ fn old_bytes(case: &Case) -> Vec<u8> {
     let length_word = case.length_word.wrapping_sub(LENGTH_WORD).wrapping_add(OLD_LENGTH_WORD);
     let version = case.version.wrapping_sub(VERSION).wrapping_add(OLD_VERSION);
     let mut bytes = head(length_word, version).to_vec();
-    bytes.extend(case.words[..SLOT_FLAG].iter().flat_map(|word| word.to_be_bytes()));
+    bytes.extend(case.words[..DISKS_INSTALLED].iter().flat_map(|word| word.to_be_bytes()));
     bytes
 }
 
@@ -62,7 +64,7 @@ fn valid(dice: &mut Dice) -> (Case, Conversion) {
         old: old_bytes(&case),
         image_bytes: IMAGE_BYTES,
         paper: lengths.paper as usize,
-        journal: 256 * lengths.slots as usize,
+        journal: OLD_RECORD_BYTES * lengths.slots as usize,
         due: Some(0),
     };
     (case, conversion)
@@ -88,7 +90,7 @@ fn bits_changed(dice: &mut Dice) -> Conversion {
     conversion
 }
 
-/// The rules of the slot are none of the old image's.
+/// The rules of the disks are none of the old image's.
 fn broken(dice: &mut Dice, met: &mut Met) -> Conversion {
     loop {
         let (mut case, mut conversion) = valid(dice);
@@ -108,7 +110,7 @@ fn other_length(dice: &mut Dice) -> Conversion {
     let length = match dice.below(3) {
         0 => dice.pick(&[0, 4, 5, OLD_IMAGE_BYTES - 1, OLD_IMAGE_BYTES + 1, IMAGE_BYTES - 4]),
         1 => dice.pick(&[OLD_IMAGE_BYTES, IMAGE_BYTES, IMAGE_BYTES - 1, IMAGE_BYTES + 1]),
-        _ => dice.below(600) as usize,
+        _ => dice.below(800) as usize,
     };
     let right = if dice.chance(2) {
         conversion.old.resize(length, 0);
@@ -138,7 +140,7 @@ fn rows(dice: &mut Dice, met: &mut Met) -> Conversion {
         conversion.journal = if long { LONG_JOURNAL } else { dice.pick(&WRONG_JOURNAL) };
     }
     if wrong & 4 != 0 {
-        conversion.old[FIRST_WORD - 1] = dice.pick(&[0, VERSION, VERSION + 1]);
+        conversion.old[FIRST_WORD - 1] = dice.pick(&[0, OLD_VERSION - 1, VERSION, VERSION + 1]);
     }
     if wrong & 8 != 0 {
         conversion.image_bytes = dice.pick(&[0, OLD_IMAGE_BYTES, IMAGE_BYTES - 1, IMAGE_BYTES + 1]);
@@ -152,6 +154,16 @@ fn rows(dice: &mut Dice, met: &mut Met) -> Conversion {
     conversion
 }
 
+/// The first version had no slot. It is converted no more, whatever it holds.
+fn first_version(dice: &mut Dice) -> Conversion {
+    let (_, mut conversion) = valid(dice);
+    let bytes = FIRST_WORD + 4 * SLOT_FLAG;
+    conversion.old.truncate(bytes);
+    conversion.old[..FIRST_WORD].copy_from_slice(&head(bytes as u32 - 4, OLD_VERSION - 1));
+    conversion.due = Some(5);
+    conversion
+}
+
 fn conversion(dice: &mut Dice, sort: usize, met: &mut Met) -> Conversion {
     match sort {
         0 | 1 => random_bytes(dice, sort == 1),
@@ -159,7 +171,8 @@ fn conversion(dice: &mut Dice, sort: usize, met: &mut Met) -> Conversion {
         3 => bits_changed(dice),
         4 => broken(dice, met),
         5 => other_length(dice),
-        _ => rows(dice, met),
+        6 => rows(dice, met),
+        _ => first_version(dice),
     }
 }
 
@@ -168,7 +181,7 @@ fn due_image(old: &[u8]) -> Vec<u8> {
     let mut image = head(LENGTH_WORD, VERSION).to_vec();
     image.extend_from_slice(&old[FIRST_WORD..]);
     image.resize(IMAGE_BYTES, 0);
-    image[FIRST_WORD + 4 * ON_HAND..][..4].fill(0);
+    clear_journal_place(&mut image);
     image
 }
 
@@ -181,7 +194,9 @@ fn count(conversion: &Conversion, number: u64, met: &mut Met) {
     met.converted[number as usize] += 1;
     if number == 0 {
         met.had_steps += u64::from(word(&conversion.old, ON_HAND) != 0);
-        met.kept_next_slot += u64::from(word(&conversion.old, NEXT_SLOT) != 0);
+        met.had_next_slot += u64::from(word(&conversion.old, NEXT_SLOT) != 0);
+        met.had_slot += u64::from(word(&conversion.old, SLOT_FLAG) != 0);
+        met.odd_journals += u64::from(conversion.journal % RECORD_BYTES != 0);
         met.had_bd += u64::from(word(&conversion.old, CAUSE) >> 31 != 0);
     }
 }

@@ -9,6 +9,7 @@ use crate::record::{at, newest, set, word, BRANCH_ADDRESS, SLOT_FLAG};
 use crate::scene::{scene, STOPS};
 use crate::sides::{Buffers, Sides};
 use crate::sight::bd;
+use reference::layout::RECORD_BYTES;
 use reference::{Answer, Machine};
 
 struct History<'a> {
@@ -68,7 +69,7 @@ impl History<'_> {
         met.between_slots += u64::from(before.slot_flag == 1 && after.slot_flag == 1);
         met.over_bd += u64::from(bd(before) != bd(&after));
         let journal = &self.sides.theirs.journal;
-        for slot in newest(before.next_slot, journal.len() / 256, steps as usize) {
+        for slot in newest(before.next_slot, journal.len() / RECORD_BYTES, steps as usize) {
             met.slot_records += u64::from(word(at(journal, slot), SLOT_FLAG) == 1);
         }
     }
@@ -85,7 +86,7 @@ impl History<'_> {
     /// break the rule, else they are given back.
     fn damaged(mut self, dice: &mut Dice) -> Checked {
         let machine = self.sides.machine();
-        let slots = self.sides.theirs.journal.len() / 256;
+        let slots = self.sides.theirs.journal.len() / RECORD_BYTES;
         let steps = dice.between(1, machine.on_hand);
         let age = dice.between(1, steps) as usize;
         let place = newest(machine.next_slot, slots, age).last().expect("one is on hand");
@@ -130,7 +131,7 @@ fn budget(dice: &mut Dice) -> u64 {
 pub fn one(dice: &mut Dice, pool: &Pool, met: &mut Met) -> Checked {
     let mut call = scene(dice, pool);
     let slots = dice.pick(&[0, 1, 2, 3, 17, 17, 17]);
-    call.journal = pool.bytes(dice, 256 * slots);
+    call.journal = pool.bytes(dice, RECORD_BYTES * slots);
     // Nothing is on hand at the start.
     clear_journal_place(&mut call.image);
     let reset = dice.chance(6);

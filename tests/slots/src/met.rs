@@ -16,7 +16,7 @@ pub const CONVERSIONS: u64 = 100_000;
 
 const ALL_BRANCHES: usize = JUMPS.len() + BRANCHES.len();
 
-/// The last breaches are those of the slot, which no old image has.
+/// The last breaches are those of the disks, which no old image has.
 const OLD_BREACHES: usize = BREACHES.len() - 4;
 
 #[derive(Default)]
@@ -53,7 +53,9 @@ pub struct Met {
     pub rows: [u64; 16],
     pub converted: [u64; 6],
     pub had_steps: u64,
-    pub kept_next_slot: u64,
+    pub had_next_slot: u64,
+    pub had_slot: u64,
+    pub odd_journals: u64,
     pub had_bd: u64,
 }
 
@@ -173,7 +175,9 @@ impl Met {
             least.met(format!("answered {number}"), self.converted[number], 2_000);
         }
         least.met("done, with steps on hand before", self.had_steps, 5_000);
-        least.met("done, with a next slot that is not 0", self.kept_next_slot, 5_000);
+        least.met("done, with a next slot that is not 0", self.had_next_slot, 5_000);
+        least.met("done, in a slot", self.had_slot, 5_000);
+        least.met("done, with an odd number of old slots", self.odd_journals, 5_000);
         least.met("done, with BD on", self.had_bd, 5_000);
         for (wrong, count) in self.rows.iter().enumerate() {
             let names = ["paper", "journal", "old image", "new image"];

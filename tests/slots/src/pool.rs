@@ -7,7 +7,7 @@ use crate::words;
 const WORDS: u32 = 1 << 16;
 
 /// The longest buffer that is asked for.
-const MOST: u32 = 1 << 13;
+const MOST: u32 = 1 << 14;
 
 pub struct Pool {
     code: Vec<u8>,

@@ -9,6 +9,7 @@ use crate::lines;
 use crate::look::{DIRTY, GLOBAL, RAM, VALID};
 use crate::pool::Pool;
 use crate::words::*;
+use reference::layout::RECORD_BYTES;
 use reference::{encode, Entry, Machine, Status, IMAGE_BYTES};
 
 /// Numbers for yes; the low half or the low byte of some is 0.
@@ -77,7 +78,7 @@ fn buffers(dice: &mut Dice, pool: &Pool) -> Call {
         bootstrap: rom(dice, pool, 0x100),
         ram: pool.code(dice, 0x1000 * frames),
         paper: pool.bytes(dice, paper),
-        journal: pool.bytes(dice, 256 * slots),
+        journal: pool.bytes(dice, RECORD_BYTES * slots),
         index: empty_index(0x1000 * frames),
         budget: budget(dice),
         stop: if dice.chance(3) { dice.pick(&STOPS) } else { 0 },

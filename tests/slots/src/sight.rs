@@ -91,6 +91,7 @@ pub fn watch(
         bootstrap_rom: &call.bootstrap,
         ram: &mut ram,
         paper: &mut paper,
+        disks: reference::no_disks(),
     };
     for steps in 0..u64::from(answer.steps) {
         let before = machine.clone();

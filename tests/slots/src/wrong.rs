@@ -6,6 +6,7 @@ use crate::lent::Slices;
 use crate::look::{look, Look, TIMER_LINE};
 use crate::record::{self, BRANCH_ADDRESS, PC, SLOT_FLAG, UNUSED};
 use crate::words::branch_kind;
+use reference::layout::RECORD_BYTES;
 use reference::{decode, encode, Answer, Machine, Memory};
 use reference::{BUDGET_SPENT, EXCEPTION, TWO_MATCHES};
 
@@ -189,13 +190,14 @@ impl Slices<'_> {
             bootstrap_rom: self.bootstrap,
             ram: self.ram,
             paper: self.paper,
+            disks: reference::no_disks(),
         };
         look(machine, &memory)
     }
 
     fn reference(&mut self, budget: u64, stop: u64) -> Answer {
         let Slices { image, execution, bootstrap, ram, paper, journal, index } = self;
-        reference::run_with_records(
+        reference::diskless::run_with_records(
             image, execution, bootstrap, ram, paper, journal, index, budget, stop,
         )
     }
@@ -209,8 +211,8 @@ impl Slices<'_> {
         if answer.number == 0 && answer.steps == 1 {
             let entered = answer.reason == EXCEPTION;
             spoil(fault, &Step { before: &before, look: &look, entered }, &mut after);
-            let slot = 256 * before.next_slot as usize;
-            if let Some(slot) = self.journal.get_mut(slot..slot + 256) {
+            let slot = RECORD_BYTES * before.next_slot as usize;
+            if let Some(slot) = self.journal.get_mut(slot..slot + RECORD_BYTES) {
                 spoil_record(fault, slot, &after);
             }
         }

@@ -3,6 +3,7 @@
 use crate::faults::Fault::{self, *};
 use crate::lent::Slices;
 use crate::record::{self, BRANCH_ADDRESS, SLOT_FLAG};
+use reference::layout::RECORD_BYTES;
 use reference::{decode, encode, Answer, Machine};
 
 const BD: u32 = 1 << 31;
@@ -10,7 +11,7 @@ const BD: u32 = 1 << 31;
 /// The journal as a take-back sees it that does not judge the slot.
 fn mended(fault: Fault, journal: &[u8]) -> Vec<u8> {
     let mut journal = journal.to_vec();
-    for slot in journal.chunks_exact_mut(256) {
+    for slot in journal.chunks_exact_mut(RECORD_BYTES) {
         let flag = record::word(slot, SLOT_FLAG);
         match fault {
             BackTakesAnyFlag if flag > 1 => record::set(slot, SLOT_FLAG, 1),
@@ -37,7 +38,8 @@ fn spoil(fault: Fault, before: &Machine, after: &mut Machine) {
 pub fn take_back(fault: Fault, lent: Slices, steps: u64) -> Answer {
     let Slices { image, ram, paper, journal, index, .. } = lent;
     let before = decode(image);
-    let answer = reference::take_back(image, ram, paper, &mended(fault, journal), index, steps);
+    let answer =
+        reference::diskless::take_back(image, ram, paper, &mended(fault, journal), index, steps);
     if answer.number == 0 && steps > 0 {
         let mut after = decode(image);
         spoil(fault, &before, &mut after);

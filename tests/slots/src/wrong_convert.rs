@@ -22,6 +22,10 @@ fn paper_count(printer: usize) -> usize {
 /// An old image in which what this fault does not judge is right.
 fn mended(fault: Fault, old: &[u8]) -> Vec<u8> {
     let mut old = old.to_vec();
+    if fault == ConvertTakesTheFirstVersion && old.len() == OLD_IMAGE_BYTES - 8 {
+        old.resize(OLD_IMAGE_BYTES, 0);
+        old[..FIRST_WORD].copy_from_slice(&head(OLD_LENGTH_WORD, OLD_VERSION));
+    }
     if fault == ConvertTakesLongerOldImages && old.len() > OLD_IMAGE_BYTES {
         old.truncate(OLD_IMAGE_BYTES);
     }
@@ -34,6 +38,10 @@ fn mended(fault: Fault, old: &[u8]) -> Vec<u8> {
         ConvertTakesAnyLengthWord => old[..4].copy_from_slice(&right[..4]),
         ConvertJudgesNoOnHand => put(&mut old, ON_HAND, 0),
         ConvertJudgesNoNextSlot => put(&mut old, NEXT_SLOT, 0),
+        ConvertJudgesNoSlotFlag => {
+            put(&mut old, SLOT_FLAG, 0);
+            put(&mut old, BRANCH_ADDRESS, 0);
+        }
         ConvertJudgesNoPaperCount => {
             for number in 0..8 {
                 put(&mut old, paper_count(number), 0);
@@ -47,12 +55,19 @@ fn mended(fault: Fault, old: &[u8]) -> Vec<u8> {
 fn spoil(fault: Fault, old: &[u8], machine: &mut Machine) {
     match fault {
         ConvertKeepsOnHand => machine.on_hand = word(old, ON_HAND),
-        ConvertClearsNextSlot => machine.next_slot = 0,
+        ConvertKeepsNextSlot => machine.next_slot = word(old, NEXT_SLOT),
+        ConvertHalvesNextSlot => machine.next_slot = word(old, NEXT_SLOT) / 2,
+        ConvertForgetsTheSlot => (machine.slot_flag, machine.branch_address) = (0, 0),
+        ConvertInstallsADisk => machine.disks_installed = 1,
+        ConvertSetsTheDisksPending => machine.disks_pending = 1,
         ConvertSetsTheFlag => machine.slot_flag = 1,
         ConvertSetsTheAddress => machine.branch_address = machine.pc.wrapping_sub(4),
         ConvertClearsBd => machine.cause &= !BD,
         ConvertForgetsEpc => machine.epc = 0,
-        ConvertJudgesNoNextSlot => machine.next_slot = word(old, NEXT_SLOT),
+        ConvertJudgesNoSlotFlag => {
+            machine.slot_flag = word(old, SLOT_FLAG);
+            machine.branch_address = word(old, BRANCH_ADDRESS);
+        }
         ConvertJudgesNoPaperCount => {
             for (number, printer) in machine.printers.iter_mut().enumerate() {
                 printer.paper_count = word(old, paper_count(number));
@@ -64,7 +79,7 @@ fn spoil(fault: Fault, old: &[u8], machine: &mut Machine) {
 
 /// The head and the end as a careless conversion leaves them.
 fn spoil_bytes(fault: Fault, before: &[u8], image: &mut [u8]) {
-    let end = IMAGE_BYTES - 8;
+    let end = FIRST_WORD + 4 * DISKS_INSTALLED;
     match fault {
         ConvertLeavesTheEnd => image[end..].copy_from_slice(&before[end..]),
         ConvertLeavesTheLengthWord => {
@@ -76,11 +91,20 @@ fn spoil_bytes(fault: Fault, before: &[u8], image: &mut [u8]) {
 }
 
 fn journal_fits(length: usize) -> bool {
-    length % 256 == 0 && length <= 16_777_216
+    length % OLD_RECORD_BYTES == 0 && length <= 16_777_216
+}
+
+/// With slots of the new length; the old image has the old one.
+fn fits_in_new_slots(old: &[u8], journal: usize) -> bool {
+    let slots = (journal / RECORD_BYTES) as u32;
+    let next_slot = word(old, NEXT_SLOT);
+    word(old, ON_HAND) <= slots && (next_slot == 0 || next_slot < slots)
 }
 
 /// The number, where this fault judges the rows in another way.
 fn other_order(fault: Fault, number: u8, old: &[u8], image: usize, journal: usize) -> u8 {
+    let new_slots = journal % RECORD_BYTES == 0;
+    let counted = number != 0 || fits_in_new_slots(old, journal);
     let journal = journal_fits(journal);
     let image_bad =
         image != IMAGE_BYTES || old.get(..FIRST_WORD) != Some(&head(OLD_LENGTH_WORD, OLD_VERSION));
@@ -91,6 +115,8 @@ fn other_order(fault: Fault, number: u8, old: &[u8], image: usize, journal: usiz
         ConvertJudgesNoPaper if number == 3 => u8::from(image_bad) * 5,
         ConvertJudgesNoJournal if number == 4 => u8::from(image_bad) * 5,
         ConvertJudgesNoRule if number == 5 && !image_bad => 0,
+        ConvertJudgesInNewSlots if number != 3 && !new_slots => 4,
+        ConvertCountsInNewSlots if !counted => 5,
         ConvertRefusesAll => 5,
         _ => number,
     }
