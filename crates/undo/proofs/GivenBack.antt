@@ -38,8 +38,8 @@ unfolding layoutOf
 parts r s =
     let a = keptWords (r .core) in
     let b = smallWords (r .timer) (r .pending) (r .paper .mask) (r .paper .bytes) in
-    let c = savedWords (r .saved) in
-    let d = flat printerWords (r .printers) in
+    let c = flat printerWords (r .printers) in
+    let d = savedWords (r .saved) in
     let s₁ = below-right a (b ++ (c ++ (d ++ unused))) s in
     let s₂ = below-right b (c ++ (d ++ unused)) s₁ in
     let small = below-left b (c ++ (d ++ unused)) s₁ in
@@ -47,8 +47,8 @@ parts r s =
       core = below-left a (b ++ (c ++ (d ++ unused))) s;
       timer = small 0 (omega arith);
       pending = small 1 (omega arith);
-      saved = below-left c (d ++ unused) s₂;
-      printers = below-left d unused (below-right c (d ++ unused) s₂);
+      saved = below-left d unused (below-right c (d ++ unused) s₂);
+      printers = below-left c (d ++ unused) s₂;
     }
 
 -- ---- each part given back
