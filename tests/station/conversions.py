@@ -111,7 +111,8 @@ def goes_on(s, folder):
     assert got["ram"] == want["ram"] and got["image"][:ON_HAND + 4] == want["image"][:ON_HAND + 4]
     ok(s, "back", str(SLOTS), folder=folder)
     ok(s, "run", str(SLOTS), folder=folder)
-    assert state(s) == got and any(got["index"])
+    # but for the distances of its records: those to steps that were not on hand any more are 0
+    assert dict(state(s), journal=b"") == dict(got, journal=b"") and any(got["index"])
     ok(s, "back", "4", folder=folder)
     assert clock(s) == 33 and len(state(s)["image"]) == NEW
     shutil.rmtree(fresh)
