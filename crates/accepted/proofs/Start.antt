@@ -57,7 +57,7 @@ paper-short len e =
 
 pub few-slots : (journal : List ℕ) → journalFits (length journal) ≡ true → slotsOf journal < 2 ^ 32
 few-slots journal e =
-    let most = leb-true (length journal) 16777216 (both (leb (length journal) 16777216) (eqb (length journal % 256) 0) e .0) in
+    let most = leb-true (length journal) 16777216 (both (leb (length journal) 16777216) (eqb (length journal % 512) 0) e .0) in
     omega (arith, most)
 
 -- ---- the journal's two words
