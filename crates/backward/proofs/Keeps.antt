@@ -73,7 +73,7 @@ module _ (n : ℕ) (journal : List ℕ) (next : ℕ) (w : World) where
       backward-long (back.base noRoms) (hand - k) (ring.recordAt (back.both noRoms) n journal next k) (before k) (undoneSide (back.both noRoms) n journal next k hand w x)
       ∙ before-index k hand x
 
-  module _ (room : 256 * n ≤ length journal) (place : next < max n 1) (small : Below 256 journal) (good : Good w) where
+  module _ (room : 512 * n ≤ length journal) (place : next < max n 1) (small : Below 256 journal) (good : Good w) where
     before-good : (k : ℕ) → k ≤ n → allFit (back.both noRoms) n journal next k w ≡ true → Good (before k)
     unfolding undone allFit
     before-good zero l e = good
