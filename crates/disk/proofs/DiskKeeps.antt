@@ -47,6 +47,17 @@ absent-idle d k busy =
     let busy-is : d .status ≡ 3 = eqb-true (d .status) 3 busy in
     omega arith
 
+-- a disk that is not busy, installed or not, has nothing left
+pub nothing-left : (installed pending : Bool) (delay room : ℕ) (d : Disk) → diskKeeps installed pending delay room d ≡ true → isBusy d ≡ false → (eqb (d .ticks) 0 && eqb (d .words) 0) ≡ true
+unfolding diskKeeps
+nothing-left true pending delay room d k idle = rw idle at (present pending delay room d k .work)
+nothing-left false pending delay room d k idle =
+    let five = eqb (d .status) 0 && eqb (d .command) 0 && eqb (d .data0) 0 && eqb (d .data1) 0 && eqb (d .ticks) 0 in
+    let h = both (five && eqb (d .words) 0) (eqb (d .cylinder) 0) k .0 in
+    let g = both five (eqb (d .words) 0) h in
+    let ticks = both (eqb (d .status) 0 && eqb (d .command) 0 && eqb (d .data0) 0 && eqb (d .data1) 0) (eqb (d .ticks) 0) (g .0) .1 in
+    and-true ticks (g .1)
+
 -- ---- what a busy disk's rules say
 
 module _ (pending : Bool) (delay room : ℕ) (d : Disk) (k : Present pending delay room d) (busy : isBusy d ≡ true) where
@@ -178,20 +189,20 @@ module _ (room command : ℕ) (d : Disk) where
 
 module _ (pending : Bool) (delay room : ℕ) (d : Disk) (k : Present pending delay room d) (idle : isBusy d ≡ false) where
   -- an installed, idle disk has nothing left
-  nothing-left : (eqb (d .ticks) 0 && eqb (d .words) 0) ≡ true
-  nothing-left = rw idle at (k .work)
+  none-left : (eqb (d .ticks) 0 && eqb (d .words) 0) ≡ true
+  none-left = rw idle at (k .work)
 
   no-ticks : eqb (d .ticks) 0 ≡ true
-  no-ticks = both (eqb (d .ticks) 0) (eqb (d .words) 0) nothing-left .0
+  no-ticks = both (eqb (d .ticks) 0) (eqb (d .words) 0) none-left .0
 
   no-words : eqb (d .words) 0 ≡ true
-  no-words = both (eqb (d .ticks) 0) (eqb (d .words) 0) nothing-left .1
+  no-words = both (eqb (d .ticks) 0) (eqb (d .words) 0) none-left .1
 
   -- a command that is at its end at once
   at-once : (on : Bool) (status command : ℕ) → between 1 7 status ≡ true → eqb status 3 ≡ false →
       presentKeeps on delay room (startedWith delay status command d) ≡ true
   unfolding presentKeeps
-  at-once on status command s i = and-true (and-true s (rw i nothing-left)) (k .place)
+  at-once on status command s i = and-true (and-true s (rw i none-left)) (k .place)
 
   -- RESET and a legal SEEKCYL
   boom-starts : (command : ℕ) → 1 ≤ delay → isTransfer (codeOf command) ≡ false → isBoom (codeOf command) ≡ true →
@@ -261,4 +272,4 @@ module _ (pending : Bool) (delay room : ℕ) (d : Disk) (k : Present pending del
 
   pub with-data-keeps : (word : ℕ) → presentKeeps pending delay room (withData word d) ≡ true
   unfolding presentKeeps
-  with-data-keeps word = and-true (and-true (k .status) (rw idle nothing-left)) (k .place)
+  with-data-keeps word = and-true (and-true (k .status) (rw idle none-left)) (k .place)

@@ -8,7 +8,7 @@ use borrow.Author.Tests.{eqb-true, ltb-true, le-leb}
 use lib.Dec.{eqb, ltb}
 use Rattle.word.proofs.Cond.{both, and-true}
 use Rattle.word.specs.Number.{between}
-use Rattle.printer.proofs.Places.{below-higher}
+use Rattle.device.proofs.Places.{below-higher}
 use Rattle.disk.specs.declared.Disk.{Disk}
 use Rattle.disk.specs.Fields.{cylinders, heads, sectors, sizeOf, codeOf, headnum, sectnum, hasCylinder, hasBlock, inRam, blockOf}
 use Rattle.disk.specs.Tick.{isBusy, transfers, fits, reads, writes}

@@ -1,18 +1,11 @@
--- Request L4: "A disk keeps a printer's rules with STATUS 1 to 7, but ..": what every image keeps of the disks.
-use Prim.Native.Nat.{ℕ, _<_}
-use mathlib.Core.Path.{_≡_}
-use mathlib.Core.Bool.{Bool, true, not, _&&_, _||_, cond}
+-- Request L4: "A disk keeps a printer's rules with STATUS 1 to 7, but ..": what every image keeps of a disk.
+use Prim.Native.Nat.{ℕ}
+use mathlib.Core.Bool.{Bool, not, _&&_, _||_, cond}
 use lib.Dec.{eqb}
-use lib.ListN.{length, getD}
-use Rattle.word.specs.Lists.{every}
-use Rattle.word.specs.Map.{bit}
-use Rattle.word.specs.Sizes.{devices}
-use Rattle.word.specs.Mask.{within}
 use Rattle.word.specs.Number.{between}
 use Rattle.disk.specs.declared.Disk.{Disk}
-use Rattle.disk.specs.declared.Line.{Line}
 use Rattle.disk.specs.Fields.{codeOf, cylnum, isBoom, hasCylinder, hasBlock, inRam, sizeOf}
-use Rattle.disk.specs.Tick.{noDisk, isBusy, transfers}
+use Rattle.disk.specs.Tick.{isBusy, transfers}
 
 -- "an uninstalled one is all 0"
 abbrev pub absentKeeps : Disk → Bool
@@ -52,23 +45,6 @@ presentKeeps pending delay room d = between 1 7 (d .status) && workKeeps pending
 unfoldable pub diskKeeps : Bool → Bool → ℕ → ℕ → Disk → Bool
 diskKeeps installed pending delay room d = cond installed (presentKeeps pending delay room d) (absentKeeps d)
 
--- disk n, by its bit of the two maps
-abbrev pub diskKeepsAt : ℕ → ℕ → ℕ → Line → ℕ → Bool
-diskKeepsAt installed delay room line n =
-    diskKeeps (bit n installed) (bit n (line .pending)) delay room (getD (line .disks) n noDisk)
-
--- "pending within installed", and the rules of each disk: the test that a call makes of a lent image
-unfoldable pub lineKeeps : ℕ → ℕ → ℕ → Line → Bool
-lineKeeps installed delay room line = within installed (line .pending) && every devices (diskKeepsAt installed delay room line)
-
 -- row 13: a buffer of the disk's own size
 abbrev pub sizeKeeps : ℕ → Disk → Bool
 sizeKeeps size d = eqb size (sizeOf (d .data1))
-
--- ---- aids to proofs: nothing that a reader must believe
-
--- what the test says
-pub record Keeps (installed delay room : ℕ) (line : Line) : Type 0 where
-  pub eight : length (line .disks) ≡ devices
-  pub owned : within installed (line .pending) ≡ true
-  pub each : (n : ℕ) → n < devices → diskKeepsAt installed delay room line n ≡ true

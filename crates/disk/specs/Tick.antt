@@ -1,15 +1,12 @@
 -- Request L4, part 2 of a step: the tick of a busy disk. A seek or a reset counts down; a transfer moves one word; each finishes in the tick that ends it.
-use Prim.Native.Nat.{ℕ, zero, suc, _+_, _-_, _≤_}
-use mathlib.Core.Bool.{Bool, true, false, _&&_, _||_, cond}
-use mathlib.Core.List.{List, [], _∷_}
+use Prim.Native.Nat.{ℕ, _+_, _-_, _≤_}
+use mathlib.Core.Bool.{Bool, _&&_, cond}
+use mathlib.Core.List.{List}
 use mathlib.Core.Path.{_≡_}
 use lib.Dec.{eqb, leb}
-use lib.ListN.{length, getD, set}
+use lib.ListN.{length}
 use Rattle.disk.specs.declared.Disk.{Disk}
-use Rattle.disk.specs.declared.Line.{Line}
 use Rattle.disk.specs.declared.tick.One.{One}
-use Rattle.word.specs.Map.{withBit}
-use Rattle.word.specs.Sizes.{devices}
 use Rattle.disk.specs.Fields.{codeOf, cylnum, isTransfer, inRam, frameOf, blockOf, offsetOf}
 use Rattle.disk.specs.Four.{fourAt, putFour}
 
@@ -78,55 +75,6 @@ ramTicked d ram bytes = cond (reads (length ram) (length bytes) d) (putFour ram 
 unfoldable pub bytesTicked : Disk → List ℕ → List ℕ → List ℕ
 bytesTicked d ram bytes = cond (writes (length ram) (length bytes) d) (putFour bytes (diskPlace d) (fourAt ram (ramPlace d))) bytes
 
--- ---- all eight, in number order: "Two disks on the same bytes act in number order"
-
--- the line, RAM, and the bytes of each disk
-pub record Spinning : Type 0 where
-  pub line : Line
-  pub ram : List ℕ
-  pub stores : List (List ℕ)
-
-abbrev pub spinning : Line → List ℕ → List (List ℕ) → Spinning
-spinning line ram stores = record { line = line; ram = ram; stores = stores }
-
-abbrev pub eight : List ℕ → List ℕ → List ℕ → List ℕ → List ℕ → List ℕ → List ℕ → List ℕ → List (List ℕ)
-eight a b c d e f g h = a ∷ b ∷ c ∷ d ∷ e ∷ f ∷ g ∷ h ∷ []
-
--- pending on where it finishes
-abbrev pub pendingTicked : ℕ → Disk → ℕ → ℕ
-pendingTicked n d pending = cond (finishes d) (withBit n true pending) pending
-
--- the line, RAM and one disk's bytes
-pub record Turned : Type 0 where
-  pub line : Line
-  pub ram : List ℕ
-  pub bytes : List ℕ
-
-abbrev pub turned : Line → List ℕ → List ℕ → Turned
-turned line ram bytes = record { line = line; ram = ram; bytes = bytes }
-
--- the tick of disk n, with its bytes
-unfoldable pub turnOf : ℕ → Line → List ℕ → List ℕ → Turned
-turnOf n line ram bytes =
-    let d = getD (line .disks) n noDisk in
-    turned (record { disks = set (line .disks) n (diskTicked d); pending = pendingTicked n d (line .pending) }) (ramTicked d ram bytes)
-    (bytesTicked d ram bytes)
-
--- what a turn leaves of all
-abbrev pub putBy : ℕ → List (List ℕ) → Turned → Spinning
-putBy n stores t = record { line = t .line; ram = t .ram; stores = set stores n (t .bytes) }
-
-unfoldable pub tickOne : ℕ → Spinning → Spinning
-tickOne n s = putBy n (s .stores) (turnOf n (s .line) (s .ram) (getD (s .stores) n []))
-
--- the ticks of disks 0 to n - 1
-unfoldable pub ticks : ℕ → Spinning → Spinning
-ticks zero s = s
-ticks (suc n) s = tickOne n (ticks n s)
-
-abbrev pub tickedOf : Spinning → Spinning
-tickedOf s = ticks devices s
-
 -- ---- aids to proofs: nothing that a reader must believe
 
 -- two blocks, and a word in both
@@ -146,16 +94,3 @@ pub record OneIs (d : Disk) (ram bytes : List ℕ) (one : One) (ram′ bytes′ 
   pub finished-is : one .finished ≡ finishes d
   pub ram-is : ram′ ≡ ramTicked d ram bytes
   pub bytes-is : bytes′ ≡ bytesTicked d ram bytes
-
--- a disk among the first n is busy
-unfoldable pub someBusy : ℕ → List Disk → Bool
-someBusy zero disks = false
-someBusy (suc n) disks = someBusy n disks || isBusy (getD disks n noDisk)
-
-abbrev pub anyBusy : List Disk → Bool
-anyBusy disks = someBusy devices disks
-
--- as many ticks as told
-unfoldable pub waitedOf : ℕ → Spinning → Spinning
-waitedOf zero s = s
-waitedOf (suc n) s = tickedOf (waitedOf n s)

@@ -1,0 +1,9 @@
+pub mod Passed
+pub mod Ticks
+pub mod Waited
+pub mod Turns
+pub mod LineKeeps
+pub mod Notes
+pub mod Undo
+pub mod WordBack
+pub mod Changes

@@ -1,0 +1,5 @@
+pub mod Tick
+pub mod Command
+pub mod Rules
+pub mod Saved
+pub mod Cause
