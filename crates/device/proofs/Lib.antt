@@ -3,3 +3,4 @@ pub mod Places
 pub mod Passed
 pub mod Ending
 pub mod Keeping
+pub mod Stored
