@@ -3,11 +3,12 @@ use Prim.Native.Nat.{ℕ, zero, suc}
 use mathlib.Core.Bool.{Bool, cond}
 use mathlib.Core.List.{List, []}
 use lib.ListN.{getD, set}
-use Rattle.word.specs.Lists.{tabulate}
+use Rattle.word.specs.Lists.{tabulate, flat}
 use Rattle.word.specs.Sizes.{devices}
 use Rattle.disk.specs.declared.Disk.{Disk}
 use Rattle.disk.specs.declared.saved.Kept.{Kept}
 use Rattle.disk.specs.Tick.{noDisk}
+use Rattle.disk.specs.Words.{keptWords}
 use Rattle.disk.specs.Saved.{noKept, keptOf, givenBack, ramBack, bytesBack}
 use Rattle.disks.specs.declared.Line.{Line}
 use Rattle.disks.specs.Tick.{Spinning, spinning, Turned, turned, putBy}
@@ -22,6 +23,10 @@ keptAt s n = keptOf (s .ram) (getD (s .stores) n []) (getD (s .line .disks) n no
 
 abbrev pub noteOf : Spinning → Note
 noteOf s = record { kept = tabulate devices (keptAt s); pending = s .line .pending }
+
+-- as the words of a record, four a disk; they say nothing of the pending map
+unfoldable pub noteWords : Spinning → List ℕ
+noteWords s = flat keptWords (noteOf s .kept)
 
 -- disk n given back, with its bytes
 unfoldable pub backOf : ℕ → Kept → Line → List ℕ → List ℕ → Turned

@@ -1,57 +1,56 @@
-// Writes to COMMAND and DATA0 of a disk of the line. `room` is the length of the RAM lent.
+// Writes to COMMAND and DATA0 of a disk where a run holds it. `room` is the length of the RAM lent.
 ghost use mathlib.Core.Path.{_≡_};
 ghost use Prim.Native.Nat.{_<_};
-ghost use Rattle.disks.specs.Command.{takesWrites, commandOf, dataOf};
-use crate::Line;
+ghost use lib.ListN.{length};
+ghost use Rattle.disks.specs.Words.{takesIn, CommandIs, DataIs};
+use crate::words::disk_in;
+use crate::words::put_disk;
 use disk::BUSY;
+use disk::Disk;
 use disk::command::commanded;
 use disk::command::is_refused;
-use disk::command::status_of;
 use disk::command::with_data;
 use word::map::has_bit;
 use word::map::with_bit;
 
-fn takes_writes(line: Line, installed: u32, n: usize) -> bool
+fn takes_writes(d: Disk, installed: u32, n: usize) -> bool
     requires { ⌜ n < 8 ⌝ }
-    ensures { λ r. ⌜ r ≡ takesWrites installed n line ⌝ }
+    ensures { λ r. ⌜ r ≡ takesIn installed n d ⌝ }
 {
-    let disks = line.disks;
-    let d = disks[n];
     has_bit(n, installed) & !(d.status == BUSY)
 }
 
-// A write to COMMAND of disk `n`.
-pub fn command(line: Line, installed: u32, delay: u32, room: usize, n: usize, word: u32) -> Line
-    requires { ⌜ n < 8 ⌝ }
-    ensures { λ r. ⌜ r ≡ commandOf installed delay room n word line ⌝ }
+// A write to COMMAND of disk `n`: the pending map after it.
+pub fn command(
+    words: &mut [u32; 56],
+    pending: u32,
+    installed: u32,
+    delay: u32,
+    room: usize,
+    n: usize,
+    word: u32,
+) -> u32
+    requires { ⌜ (n < 8) × (length (now words) ≡ 56) ⌝ }
+    ensures { λ r. ⌜ CommandIs installed delay room n word (now (words .entry)) pending r (now (words .exit)) ⌝ }
 {
-    if takes_writes(line, installed, n) {
-        let pending = line.pending;
-        let mut disks = line.disks;
-        let d = disks[n];
-        let status = status_of(room, word, d);
-        let next = commanded(d, room, word, delay);
-        disks[n] = next;
-        return Line {
-            disks,
-            pending: with_bit(n, is_refused(status), pending),
-        };
+    let d = disk_in(words, n);
+    if !takes_writes(d, installed, n) {
+        return pending;
     }
-    line
+    let next = commanded(d, room, word, delay);
+    put_disk(next, words, 7 * n);
+    with_bit(n, is_refused(next.status), pending)
 }
 
 // A write to DATA0 of disk `n`.
-pub fn data(line: Line, installed: u32, n: usize, word: u32) -> Line
-    requires { ⌜ n < 8 ⌝ }
-    ensures { λ r. ⌜ r ≡ dataOf installed n word line ⌝ }
+pub fn data(words: &mut [u32; 56], installed: u32, n: usize, word: u32)
+    requires { ⌜ (n < 8) × (length (now words) ≡ 56) ⌝ }
+    ensures { λ _. ⌜ DataIs installed n word (now (words .entry)) (now (words .exit)) ⌝ }
 {
-    if takes_writes(line, installed, n) {
-        let pending = line.pending;
-        let mut disks = line.disks;
-        let d = disks[n];
-        let next = with_data(d, word);
-        disks[n] = next;
-        return Line { disks, pending };
+    let d = disk_in(words, n);
+    if !takes_writes(d, installed, n) {
+        return;
     }
-    line
+    let next = with_data(d, word);
+    put_disk(next, words, 7 * n);
 }

@@ -4,6 +4,7 @@ pub mod command;
 pub mod rules;
 pub mod saved;
 pub mod tick;
+pub mod words;
 
 use disk::Disk;
 

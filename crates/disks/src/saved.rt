@@ -1,14 +1,20 @@
 // What a record keeps of all eight disks, and giving it back.
 ghost use mathlib.Core.Path.{_≡_};
-ghost use Prim.Native.Nat.{_<_};
+ghost use Prim.Native.Nat.{_*_, _<_};
+ghost use lib.ListN.{length};
+ghost use lib.Seq.{sets};
+ghost use Rattle.disk.specs.Saved.{keptOf};
+ghost use Rattle.disk.specs.Words.{keptWords};
 ghost use Rattle.disks.specs.Tick.{turned, spinning, eight};
-ghost use Rattle.disks.specs.Saved.{backOf, noteOf, undoOf};
+ghost use Rattle.disks.specs.Saved.{noteWords, backOf, undoOf};
+ghost use Rattle.disks.specs.Words.{diskIn, lineIn};
 use crate::Line;
+use crate::words::disk_in;
 use disk::saved::Kept;
 use disk::saved::bytes_back;
 use disk::saved::given_back;
-use disk::saved::keep;
 use disk::saved::ram_back;
+use disk::words::put_kept;
 
 // Disk `n` of the line given back, with its bytes.
 pub fn back(n: usize, k: Kept, line: Line, ram: &mut [u8], bytes: &mut [u8]) -> Line
@@ -32,9 +38,19 @@ fn with_pending(pending: u32, line: Line) -> Line
     Line { disks, pending }
 }
 
+// What a record keeps of disk `n`, as its four words.
+fn keep_one(words: &[u32; 56], n: usize, ram: &[u8], bytes: &[u8], kept: &mut [u32; 32])
+    requires { ⌜ n < 8 ⌝ }
+    ensures { λ _. ⌜ now (kept .exit) ≡ sets (now (kept .entry)) (4 * n) (keptWords (keptOf (now (ram .entry)) (now (bytes .entry)) (diskIn (now (words .entry)) n))) ⌝ }
+{
+    let d = disk_in(words, n);
+    let k = disk::saved::keep(d, ram, bytes);
+    put_kept(k, kept, 4 * n);
+}
+
 // What a record keeps of all eight, before the step.
-pub fn keep_line(
-    line: Line,
+pub fn keep(
+    words: &[u32; 56],
     ram: &[u8],
     b0: &[u8],
     b1: &[u8],
@@ -44,27 +60,19 @@ pub fn keep_line(
     b5: &[u8],
     b6: &[u8],
     b7: &[u8],
-) -> [Kept; 8]
-    ensures { λ r. ⌜ r ≡ noteOf (spinning line (now (ram .entry)) (eight (now (b0 .entry)) (now (b1 .entry)) (now (b2 .entry)) (now (b3 .entry)) (now (b4 .entry)) (now (b5 .entry)) (now (b6 .entry)) (now (b7 .entry)))) .kept ⌝ }
+    kept: &mut [u32; 32],
+)
+    requires { ⌜ length (now kept) ≡ 32 ⌝ }
+    ensures { λ _. ⌜ now (kept .exit) ≡ noteWords (spinning (lineIn (now (words .entry)) 0) (now (ram .entry)) (eight (now (b0 .entry)) (now (b1 .entry)) (now (b2 .entry)) (now (b3 .entry)) (now (b4 .entry)) (now (b5 .entry)) (now (b6 .entry)) (now (b7 .entry)))) ⌝ }
 {
-    let disks = line.disks;
-    let d0 = disks[0];
-    let k0 = keep(d0, ram, b0);
-    let d1 = disks[1];
-    let k1 = keep(d1, ram, b1);
-    let d2 = disks[2];
-    let k2 = keep(d2, ram, b2);
-    let d3 = disks[3];
-    let k3 = keep(d3, ram, b3);
-    let d4 = disks[4];
-    let k4 = keep(d4, ram, b4);
-    let d5 = disks[5];
-    let k5 = keep(d5, ram, b5);
-    let d6 = disks[6];
-    let k6 = keep(d6, ram, b6);
-    let d7 = disks[7];
-    let k7 = keep(d7, ram, b7);
-    [k0, k1, k2, k3, k4, k5, k6, k7]
+    keep_one(words, 0, ram, b0, kept);
+    keep_one(words, 1, ram, b1, kept);
+    keep_one(words, 2, ram, b2, kept);
+    keep_one(words, 3, ram, b3, kept);
+    keep_one(words, 4, ram, b4, kept);
+    keep_one(words, 5, ram, b5, kept);
+    keep_one(words, 6, ram, b6, kept);
+    keep_one(words, 7, ram, b7, kept);
 }
 
 // All eight given back, the last first, each with its own bytes.

@@ -1,30 +1,36 @@
 -- `command::command` meets its contract: a disk that takes no writes ignores it.
-use mathlib.Core.Path.{sym, _∙_}
-use Rattle.disks.specs.Command.{commandOf}
+use mathlib.Core.Bool.{Bool}
+use mathlib.Core.Path.{sym, ap, _∙_}
+use borrow.Author.Tests.{not-true, not-false}
+use Rattle.word.specs.Map.{withBit}
+use Rattle.disks.proofs.LineHeld.{not-commanded, commanded-held}
 use borrow.Author.Needs.{needs}
 use Rattle.disks.proofs.command.command.Statement.{statement}
 use Rattle.disks.proofs.command.command.Tie as tie
 
+disk-in-requires : tie.Need-disk-in-requires
+disk-in-requires c κs = search needs
+
 takes-writes-requires : tie.Need-takes-writes-requires
 takes-writes-requires c κs = search needs
 
-mul-d : tie.Need-mul-d
-mul-d c = search needs
-
-array-copy-out-d : tie.Need-array-copy-out-d
-array-copy-out-d c = search needs
-
-status-of-requires : tie.Need-status-of-requires
-status-of-requires c κs = search needs
+returns : tie.Need-returns
+returns c =
+    let asked = c .before in
+    let read = asked .before in
+    let start = read .before .before in
+    let a = start .args in
+    not-commanded (a .words .now) (a .n) (start .pre .0) (start .pre .1) (a .installed) (a .delay) (a .room) (a .word) (a .pending) (read .disk-in .ensures)
+    (sym (asked .takes-writes .ensures) ∙ not-true _ (c .if1 .taken))
 
 commanded-requires : tie.Need-commanded-requires
 commanded-requires c κs = search needs
 
-mul-disks : tie.Need-mul-disks
-mul-disks c = search needs
+mul-put-disk : tie.Need-mul-put-disk
+mul-put-disk c = search needs
 
-array-set-from-disks : tie.Need-array-set-from-disks
-array-set-from-disks c = search needs
+put-disk-requires : tie.Need-put-disk-requires
+put-disk-requires c κs = search needs
 
 is-refused-requires : tie.Need-is-refused-requires
 is-refused-requires c κs = search needs
@@ -32,26 +38,27 @@ is-refused-requires c κs = search needs
 with-bit-requires : tie.Need-with-bit-requires
 with-bit-requires c κs = search needs
 
-returns : tie.Need-returns
-unfolding commandOf
-returns c = rw (c .with-bit .ensures, c .before .is-refused .ensures, c .before .before .before .status-of .ensures, c .before .before .commanded .ensures, sym (c .before .before .before .before .before .before .before .takes-writes .ensures) ∙ c .before .before .before .before .before .before .if1 .taken)
-
 returns-2 : tie.Need-returns-2
-unfolding commandOf
-returns-2 c = rw (sym (c .before .takes-writes .ensures) ∙ c .if1 .left)
+returns-2 c =
+    let made = c .before .before .before .before in
+    let asked = made .before .before in
+    let read = asked .before in
+    let start = read .before .before in
+    let a = start .args in
+    commanded-held (a .words .now) (a .n) (start .pre .0) (start .pre .1) (a .installed) (a .delay) (a .room) (a .word) (a .pending) (read .disk-in .ensures)
+    (sym (asked .takes-writes .ensures) ∙ not-false _ (made .before .if1 .left)) (made .commanded .ensures) (c .before .before .put-disk .ensures)
+    (c .with-bit .ensures ∙ ap (λ (b : Bool). withBit (a .n) b (a .pending)) (c .before .is-refused .ensures))
 
 pub command-spec : {M : Type 1} → statement M
 command-spec =
     tie.close
     (tie.spec
+    disk-in-requires
     takes-writes-requires
-    mul-d
-    array-copy-out-d
-    status-of-requires
+    returns
     commanded-requires
-    mul-disks
-    array-set-from-disks
+    mul-put-disk
+    put-disk-requires
     is-refused-requires
     with-bit-requires
-    returns
     returns-2)

@@ -1,45 +1,53 @@
 -- `command::data` meets its contract: a disk that takes no writes ignores it.
 use mathlib.Core.Path.{sym, _∙_}
-use Rattle.disks.specs.Command.{dataOf}
+use borrow.Author.Tests.{not-true, not-false}
+use Rattle.disks.proofs.LineHeld.{not-written, written-held}
 use borrow.Author.Needs.{needs}
 use Rattle.disks.proofs.command.data.Statement.{statement}
 use Rattle.disks.proofs.command.data.Tie as tie
 
+disk-in-requires : tie.Need-disk-in-requires
+disk-in-requires c κs = search needs
+
 takes-writes-requires : tie.Need-takes-writes-requires
 takes-writes-requires c κs = search needs
 
-mul-d : tie.Need-mul-d
-mul-d c = search needs
-
-array-copy-out-d : tie.Need-array-copy-out-d
-array-copy-out-d c = search needs
+returns : tie.Need-returns
+returns c =
+    let asked = c .before in
+    let read = asked .before in
+    let start = read .before .before in
+    let a = start .args in
+    not-written (a .words .now) (a .n) (start .pre .0) (start .pre .1) (a .installed) (a .word) (read .disk-in .ensures)
+    (sym (asked .takes-writes .ensures) ∙ not-true _ (c .if1 .taken))
 
 with-data-requires : tie.Need-with-data-requires
 with-data-requires c κs = search needs
 
-mul-disks : tie.Need-mul-disks
-mul-disks c = search needs
+mul-put-disk : tie.Need-mul-put-disk
+mul-put-disk c = search needs
 
-array-set-from-disks : tie.Need-array-set-from-disks
-array-set-from-disks c = search needs
-
-returns : tie.Need-returns
-unfolding dataOf
-returns c = rw (c .with-data .ensures, sym (c .before .before .before .before .takes-writes .ensures) ∙ c .before .before .before .if1 .taken)
+put-disk-requires : tie.Need-put-disk-requires
+put-disk-requires c κs = search needs
 
 returns-2 : tie.Need-returns-2
-unfolding dataOf
-returns-2 c = rw (sym (c .before .takes-writes .ensures) ∙ c .if1 .left)
+returns-2 c =
+    let made = c .before .before in
+    let asked = made .before .before in
+    let read = asked .before in
+    let start = read .before .before in
+    let a = start .args in
+    written-held (a .words .now) (a .n) (start .pre .0) (start .pre .1) (a .installed) (a .word) (read .disk-in .ensures)
+    (sym (asked .takes-writes .ensures) ∙ not-false _ (made .before .if1 .left)) (made .with-data .ensures) (c .put-disk .ensures)
 
 pub data-spec : {M : Type 1} → statement M
 data-spec =
     tie.close
     (tie.spec
+    disk-in-requires
     takes-writes-requires
-    mul-d
-    array-copy-out-d
-    with-data-requires
-    mul-disks
-    array-set-from-disks
     returns
+    with-data-requires
+    mul-put-disk
+    put-disk-requires
     returns-2)

@@ -3,12 +3,6 @@ use borrow.Author.Needs.{needs}
 use Rattle.disks.proofs.command.takes_writes.Statement.{statement}
 use Rattle.disks.proofs.command.takes_writes.Tie as tie
 
-mul-d : tie.Need-mul-d
-mul-d c = search needs
-
-array-copy-out-d : tie.Need-array-copy-out-d
-array-copy-out-d c = search needs
-
 has-bit-requires : tie.Need-has-bit-requires
 has-bit-requires c κs = search needs
 
@@ -16,4 +10,8 @@ returns : tie.Need-returns
 returns c = rw (c .before .has-bit .ensures)
 
 pub takes-writes-spec : {M : Type 1} → statement M
-takes-writes-spec = tie.close (tie.spec mul-d array-copy-out-d has-bit-requires returns)
+takes-writes-spec =
+    tie.close
+    (tie.spec
+    has-bit-requires
+    returns)
