@@ -1,110 +1,39 @@
--- The line keeps its rules over a tick and over every write.
-use Prim.Native.Nat.{ℕ, _-_, _%_, _^_, _≤_, _<_}
-use mathlib.Core.Path.{_≡_, refl, sym, subst, _∙_}
+-- The line keeps its rules over a tick and over every write. What is so of every line of devices is `device`'s.
+use Prim.Native.Nat.{ℕ, _-_, _≤_, _<_}
+use mathlib.Core.Path.{_≡_, refl}
 use mathlib.Core.Bool.{Bool, true, false, not, cond}
-use native.Mathlib.Decide.{ℕ-discrete, decLt}
-use native.Mathlib.Nat.{mod-eq-of-lt, lt-of-le-of-lt}
-use native.Mathlib.Omega.{arith}
-use borrow.Author.Tests.{not-true, eqb-true, eq-eqb}
-use lib.Bits.{bitAnd, and-mod, and-le-r, and-zero-r}
+use borrow.Author.Tests.{not-true}
+use lib.Bits.{bitAnd}
 use lib.Dec.{leb}
-use lib.ListN.{length, getD, set, length-set}
-use lib.Seq.{getD-set-same, getD-set-other}
-use Rattle.word.specs.Lists.{every}
+use lib.ListN.{length, getD, set}
 use Rattle.word.specs.Map.{bit, withBit}
-use Rattle.word.specs.Mask.{within}
-use Rattle.word.proofs.BitLaws.{low-bit}
-use Rattle.word.proofs.Cond.{both, and-true}
-use Rattle.word.proofs.Maps.{bit-told, bit-other, bit-kept}
-use Rattle.word.proofs.Within.{within-masked, masked-within}
+use Rattle.word.proofs.Cond.{both}
+use Rattle.device.proofs.Keeping as device
 use Rattle.printer.specs.declared.Printer.{Printer}
 use Rattle.printer.specs.declared.Line.{Line}
-use Rattle.printer.specs.Tick.{Printing, noPrinter, isBusy, finishes, roomOf, tickedOf}
+use Rattle.printer.specs.Tick.{Printing, noPrinter, isBusy, finishes, roomOf, printerTicked, tickedOf}
 use Rattle.printer.specs.Command.{isIllegal, commandedOf, withData, takesWrites, commandOf, dataOf}
-use Rattle.printer.specs.Rules.{printerKeeps, printerKeepsAt, Keeps, lineKeeps}
-use Rattle.printer.proofs.Each.{all-hold, each-holds}
-use Rattle.printer.proofs.Passed.{old, room-ticks, length-printers, passed, pending-before, pending-passed}
+use Rattle.printer.specs.Rules.{printerKeeps, keepsOf, Keeps, lineKeeps}
+use Rattle.printer.proofs.Passed.{room-ticks, printers-told, pending-told}
 use Rattle.printer.proofs.PrinterKeeps.{Present, present, absent-idle, ticked-keeps, commanded-keeps, with-data-keeps}
 
--- ---- the pending map stays within the installed map
-
--- what decides is the map's low 32 bits
-low-word : (m x : ℕ) → bitAnd x (0xFFFFFFFF - m) ≡ bitAnd (x % 2 ^ 32) (0xFFFFFFFF - m)
-low-word m x =
-    let c = 0xFFFFFFFF - m in
-    let small : c < 2 ^ 32 = omega arith in
-    sym (mod-eq-of-lt (lt-of-le-of-lt (and-le-r x c) small)) ∙ and-mod x c 32 ∙ rw (mod-eq-of-lt small)
-
--- a map whose bits are each the old one's or an installed device's
-still-owned : (m x y : ℕ) → within m x ≡ true →
-    ((k : ℕ) → (bit k x ≡ true → bit k m ≡ true) → bit k y ≡ true → bit k m ≡ true) → within m y ≡ true
-still-owned m x y e new =
-    elim (decLt m (2 ^ 32)) [
-      | yes word ↦
-          let old = masked-within 32 m x word (eqb-true (bitAnd x (0xFFFFFFFF - m)) 0 e) in
-          eq-eqb (bitAnd y (0xFFFFFFFF - m)) 0
-          (low-word m y ∙ within-masked 32 m (y % 2 ^ 32) word (omega arith) (λ k h on. new k (old k h) (sym (low-bit 32 k y h) ∙ on)))
-      | no beyond ↦
-          let all : 0xFFFFFFFF - m ≡ 0 = omega arith in
-          eq-eqb (bitAnd y (0xFFFFFFFF - m)) 0 (rw (all, and-zero-r y))
-    ]
-
 -- a printer that finishes is busy, so it is installed
-finisher-here : (installed pending : Bool) (delay room : ℕ) (p : Printer) → printerKeeps installed pending delay room p ≡ true →
-    finishes p ≡ true → installed ≡ true
+finisher-here : (delay room : ℕ) (installed pending : Bool) (p : Printer) → keepsOf delay room installed pending p ≡ true → finishes p ≡ true → installed ≡ true
 unfolding printerKeeps
-finisher-here true pending delay room p k f = refl
-finisher-here false pending delay room p k f = absurd (absent-idle p k (both (isBusy p) (leb (p .left) 1) f .0))
-
--- a bit that is on after the tick was on before, or its printer finished
-ticked-owned : (installed delay : ℕ) (s : Printing) → Keeps installed delay (roomOf (s .paper)) (s .line) → (n : ℕ) →
-    (bit n (s .line .pending) ≡ true → bit n installed ≡ true) → bit n (tickedOf s .line .pending) ≡ true → bit n installed ≡ true
-ticked-owned installed delay s k n was on =
-    elim (decLt n 8) [
-      | yes low ↦ go low (finishes (old s n)) refl (sym (pending-passed s 8 n low) ∙ on)
-      | no high ↦ was (sym (pending-before s 8 n (omega arith)) ∙ on)
-    ]
-  where
-    go : n < 8 → (done : Bool) → finishes (old s n) ≡ done → cond done true (bit n (s .line .pending)) ≡ true → bit n installed ≡ true
-    go low true e on = finisher-here (bit n installed) (bit n (s .line .pending)) delay (roomOf (s .paper)) (old s n) (k .each n low) e
-    go low false e on = was on
+finisher-here delay room true pending p k f = refl
+finisher-here delay room false pending p k f = absurd (absent-idle p k (both (isBusy p) (leb (p .left) 1) f .0))
 
 -- A tick keeps the rules.
 pub tick-keeps : (installed delay : ℕ) (s : Printing) → Keeps installed delay (roomOf (s .paper)) (s .line) →
     Keeps installed delay (roomOf (tickedOf s .paper)) (tickedOf s .line)
-tick-keeps installed delay s k = record {
-  eight = length-printers s 8 ∙ k .eight;
-  owned = still-owned installed (s .line .pending) (tickedOf s .line .pending) (k .owned) (ticked-owned installed delay s k);
-  each = λ n h.
-      let inside : n < length (s .line .printers) = rw (k .eight) h in
-      rw (room-ticks s 8, passed s 8 n h inside, pending-passed s 8 n h)
-      (ticked-keeps delay (roomOf (s .paper)) (old s n) (bit n installed) (bit n (s .line .pending)) (k .each n h));
-}
+tick-keeps installed delay s k =
+    rw (room-ticks s 8, printers-told s 8, pending-told s 8)
+    (device.tick-keeps noPrinter (keepsOf delay (roomOf (s .paper))) installed (s .line .printers) (s .line .pending) k finishes (printerTicked (roomOf (s .paper)))
+    (finisher-here delay (roomOf (s .paper))) (λ i on p h. ticked-keeps delay (roomOf (s .paper)) p i on h))
 
 -- ---- a write to printer n
 
 module _ (installed delay room n : ℕ) (line : Line) (k : Keeps installed delay room line) (in-line : n < 8) where
-  -- an installed printer and its pending bit anew, the others as they were
-  one-anew : (p : Printer) (on : Bool) → bit n installed ≡ true → printerKeeps (bit n installed) on delay room p ≡ true →
-      Keeps installed delay room (record { printers = set (line .printers) n p; pending = withBit n on (line .pending) })
-  one-anew p on here h = record {
-    eight = length-set (line .printers) n p ∙ k .eight;
-    owned = still-owned installed (line .pending) (withBit n on (line .pending)) (k .owned) (λ m was now. bits m was now (ℕ-discrete m n));
-    each = λ m l. by m l (ℕ-discrete m n);
-  }
-    where
-      bits : (m : ℕ) → (bit m (line .pending) ≡ true → bit m installed ≡ true) → bit m (withBit n on (line .pending)) ≡ true → Dec (m ≡ n) →
-          bit m installed ≡ true
-      bits m was now (yes e) = rw e here
-      bits m was now (no ne) = was (sym (bit-other n m on (line .pending) ne) ∙ now)
-
-      by : (m : ℕ) → m < 8 → Dec (m ≡ n) →
-          printerKeeps (bit m installed) (bit m (withBit n on (line .pending))) delay room (getD (set (line .printers) n p) m noPrinter) ≡ true
-      by m l (yes e) =
-          let inside : n < length (line .printers) = rw (k .eight) in-line in
-          rw (e, bit-told n on (line .pending), getD-set-same (line .printers) n p noPrinter inside) h
-      by m l (no ne) = rw (bit-other n m on (line .pending) ne, getD-set-other (line .printers) n m p noPrinter ne) (k .each m l)
-
   abbrev p : Printer
   p = getD (line .printers) n noPrinter
 
@@ -127,7 +56,7 @@ module _ (installed delay room n : ℕ) (line : Line) (k : Keeps installed delay
       go false e = k
       go true e =
           let t = taker e in
-          one-anew (commandedOf delay word p) (isIllegal word) (t .0)
+          device.one-anew noPrinter (keepsOf delay room) installed (line .printers) (line .pending) k n in-line (commandedOf delay word p) (t .0) (isIllegal word)
           (rw (t .0) (commanded-keeps (bit n (line .pending)) delay room p (t .2) (t .1) word some))
 
   -- A write of DATA0 keeps the rules.
@@ -140,22 +69,19 @@ module _ (installed delay room n : ℕ) (line : Line) (k : Keeps installed delay
       go false e = k
       go true e =
           let t = taker e in
-          let anew = one-anew (withData word p) (bit n (line .pending)) (t .0) (rw (t .0) (with-data-keeps (bit n (line .pending)) delay room p (t .2) (t .1) word)) in
-          subst (λ (pending : ℕ). Keeps installed delay room (record { printers = set (line .printers) n (withData word p); pending = pending }))
-          (bit-kept n (line .pending)) anew
+          device.same-anew noPrinter (keepsOf delay room) installed (line .printers) (line .pending) k n in-line (withData word p) (t .0)
+          (rw (t .0) (with-data-keeps (bit n (line .pending)) delay room p (t .2) (t .1) word))
 
 -- ---- the test says what the rules say
 
 pub tested : (installed delay room : ℕ) (line : Line) → length (line .printers) ≡ 8 → lineKeeps installed delay room line ≡ true → Keeps installed delay room line
 unfolding lineKeeps
-tested installed delay room line eight e =
-    let h = both (within installed (line .pending)) (every 8 (printerKeepsAt installed delay room line)) e in
-    record { eight = eight; owned = h .0; each = each-holds 8 (printerKeepsAt installed delay room line) (h .1) }
+tested installed delay room line eight e = device.tested noPrinter (keepsOf delay room) installed (line .printers) (line .pending) eight e
 
 pub kept-tests : (installed delay room : ℕ) (line : Line) → Keeps installed delay room line → lineKeeps installed delay room line ≡ true
 unfolding lineKeeps
-kept-tests installed delay room line k = and-true (k .owned) (all-hold 8 (printerKeepsAt installed delay room line) (k .each))
+kept-tests installed delay room line k = device.kept-tests noPrinter (keepsOf delay room) installed (line .printers) (line .pending) k
 
 -- the pending map lies within the installed map
 pub pending-within : (installed delay room : ℕ) (line : Line) → Keeps installed delay room line → bitAnd (line .pending) (0xFFFFFFFF - installed) ≡ 0
-pending-within installed delay room line k = eqb-true (bitAnd (line .pending) (0xFFFFFFFF - installed)) 0 (k .owned)
+pending-within installed delay room line k = device.pending-within noPrinter (keepsOf delay room) installed (line .printers) (line .pending) k

@@ -1,18 +1,14 @@
 -- The tick printer by printer; a tick of printers that are not busy does nothing.
 use Prim.Native.Nat.{ℕ, zero, suc, _+_}
-use mathlib.Core.Path.{_≡_, refl, sym, ap}
-use mathlib.Core.Bool.{Bool, true, false, _||_, false≢true}
+use mathlib.Core.Path.{_≡_, refl, ap}
+use mathlib.Core.Bool.{false}
 use mathlib.Core.List.{List}
 use native.Mathlib.Numerals.{add-one}
 use lib.ListN.{getD, set}
 use lib.Seq.{set-getD}
+pub use Rattle.device.proofs.Passed.{neither}
 use Rattle.printer.specs.declared.Printer.{Printer}
 use Rattle.printer.specs.Tick.{Printing, printing, noPrinter, isBusy, printerTicked, paperTicked, tickOne, ticks, tickedOf, someOf, anyBusy}
-
--- neither of two
-pub neither : (a b : Bool) → (a || b) ≡ false → (a ≡ false) × (b ≡ false)
-neither false b e = (refl, e)
-neither true b e = absurd (false≢true (sym e))
 
 idle-one : (n : ℕ) (s : Printing) → isBusy (getD (s .line .printers) n noPrinter) ≡ false → tickOne n s ≡ s
 unfolding tickOne printerTicked paperTicked

@@ -1,13 +1,13 @@
 -- Document 01, "Rules", of the pending map and the printers: what every image keeps.
-use Prim.Native.Nat.{ℕ, _<_}
-use mathlib.Core.Path.{_≡_}
-use mathlib.Core.Bool.{Bool, true, not, _&&_, _||_, cond}
+use Prim.Native.Nat.{ℕ}
+use mathlib.Core.Bool.{Bool, not, _&&_, _||_, cond}
 use lib.Dec.{eqb, leb}
-use lib.ListN.{length, getD}
+use lib.ListN.{getD}
 use Rattle.word.specs.Lists.{every}
 use Rattle.word.specs.Sizes.{devices}
 use Rattle.word.specs.Mask.{within}
 use Rattle.word.specs.Number.{between}
+use Rattle.device.specs.Line as device
 use Rattle.printer.specs.declared.Printer.{Printer}
 use Rattle.printer.specs.declared.Line.{Line}
 use Rattle.word.specs.Map.{bit}
@@ -40,8 +40,10 @@ lineKeeps installed delay room line = within installed (line .pending) && every 
 
 -- ---- aids to proofs: nothing that a reader must believe
 
+-- a printer's rules, as those of a device of a line
+abbrev pub keepsOf : ℕ → ℕ → Bool → Bool → Printer → Bool
+keepsOf delay room installed pending p = printerKeeps installed pending delay room p
+
 -- "pending within installed", and the rules of each printer
-pub record Keeps (installed delay room : ℕ) (line : Line) : Type 0 where
-  pub eight : length (line .printers) ≡ devices
-  pub owned : within installed (line .pending) ≡ true
-  pub each : (n : ℕ) → n < devices → printerKeepsAt installed delay room line n ≡ true
+abbrev pub Keeps : ℕ → ℕ → ℕ → Line → Type 0
+Keeps installed delay room line = device.Keeps noPrinter (keepsOf delay room) installed (line .printers) (line .pending)

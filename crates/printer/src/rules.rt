@@ -1,17 +1,11 @@
 // Whether the printers of a lent image keep their rules: each test is one line of `&` and `|`, so its term is the definition's.
 ghost use mathlib.Core.Path.{_≡_};
-ghost use mathlib.Core.Bool.{cond};
 ghost use Rattle.printer.specs.Rules.{absentKeeps, workKeeps, presentKeeps, printerKeeps, lineKeeps};
 use crate::BUSY;
 use crate::Line;
 use crate::Printer;
+use device::pick;
 use word::map::has_bit;
-
-fn pick(test: bool, yes: bool, no: bool) -> bool
-    ensures { λ r. ⌜ r ≡ cond test yes no ⌝ }
-{
-    if test { yes } else { no }
-}
 
 fn absent_keeps(p: Printer) -> bool
     ensures { λ r. ⌜ r ≡ absentKeeps p ⌝ }

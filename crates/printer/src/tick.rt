@@ -1,10 +1,8 @@
 // Step part 2: the tick of one printer. All eight tick where a run holds them (held::line), and only while one is busy: else nothing is written
 // (proofs/Ticks: idle-tick).
-ghost use mathlib.Core.Bool.{cond, true};
 ghost use mathlib.Core.Path.{_≡_};
 ghost use Prim.Native.Nat.{_<_, _≤_};
 ghost use lib.ListN.{length};
-ghost use Rattle.word.specs.Map.{withBit};
 ghost use Rattle.printer.specs.Tick.{
   prints,
   endedWith,
@@ -18,7 +16,7 @@ use crate::PRINT_ERROR;
 use crate::PRINTCHR;
 use crate::Printer;
 use crate::READY;
-use word::map::with_bit;
+pub use device::pending_on;
 
 // The tick of one printer, its byte on paper aside.
 pub struct One {
@@ -98,14 +96,4 @@ pub fn tick_one(n: usize, p: Printer, paper: &mut [u8]) -> One
         printer: finished(room, p),
         finished: true,
     }
-}
-
-pub fn pending_on(n: usize, finished: bool, pending: u32) -> u32
-    requires { ⌜ n < 8 ⌝ }
-    ensures { λ r. ⌜ r ≡ cond finished (withBit n true pending) pending ⌝ }
-{
-    if finished {
-        return with_bit(n, true, pending);
-    }
-    pending
 }

@@ -1,0 +1,12 @@
+pub mod Passed
+pub mod Ticks
+pub mod Waited
+pub mod Turns
+pub mod LineHeld
+pub mod Packed
+pub mod LineKeeps
+pub mod Notes
+pub mod NoteWords
+pub mod Undo
+pub mod WordBack
+pub mod Changes
