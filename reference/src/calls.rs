@@ -1,74 +1,21 @@
-//! Reset and run, with their refusals.
+//! Run, with its refusals.
 
 use crate::address::{Second, Stop};
-use crate::answer::{Answer, BUDGET_SPENT, EXCEPTION, NO_REASON, TWO_MATCHES};
+use crate::answer::{Answer, BUDGET_SPENT, EXCEPTION, TWO_MATCHES};
 use crate::exception::Exception;
-use crate::image::{decode, encode, IMAGE_BYTES};
+use crate::image::{decode, encode};
 use crate::look::{look, Instruction};
-use crate::machine::{Disk, Machine};
+use crate::machine::Machine;
 use crate::memory::Memory;
 use crate::pages::Pages;
-use crate::printer::READY;
 use crate::record::{NoRecord, Recorder};
 use crate::rules::keeps_rules;
 use crate::sizes::{
-    any_index_fits, budget_fits, disks_fit, disks_parameters_fit, index_fits, installed_fits,
-    journal_fits, paper_fits, printer_delay_fits, ram_fits, record_slots, rom_fits,
-    time_scale_fits, RECORD_BYTES,
+    budget_fits, disks_fit, index_fits, journal_fits, paper_fits, ram_fits, record_slots, rom_fits,
+    RECORD_BYTES,
 };
-use crate::status::Status;
 use crate::step::take;
 use crate::word::{opcode, COP0};
-
-#[allow(clippy::too_many_arguments)]
-pub fn reset(
-    image: &mut [u8],
-    index: &mut [u8],
-    time_scale: u64,
-    printer_delay: u64,
-    installed: u64,
-    disks: u64,
-    geometry: [u64; 8],
-) -> Answer {
-    if image.len() != IMAGE_BYTES {
-        return Answer::refused(5);
-    }
-    if !(time_scale_fits(time_scale)
-        && printer_delay_fits(printer_delay)
-        && installed_fits(installed)
-        && disks_parameters_fit(disks, geometry))
-    {
-        return Answer::refused(6);
-    }
-    if !any_index_fits(index.len()) {
-        return Answer::refused(10);
-    }
-    let mut machine = Machine {
-        pc: 0x1FC0_0000,
-        next_pc: 0x1FC0_0004,
-        status: Status(0x1040_0000),
-        random: 15 << 8,
-        timer: 0xFFFF_FFFF,
-        time_scale: time_scale as u32,
-        printer_delay: printer_delay as u32,
-        installed: installed as u32,
-        disks_installed: disks as u32,
-        ..Machine::default()
-    };
-    for (number, printer) in machine.printers.iter_mut().enumerate() {
-        if installed >> number & 1 != 0 {
-            printer.status = READY;
-        }
-    }
-    for (number, disk) in machine.disks.iter_mut().enumerate() {
-        if disks >> number & 1 != 0 {
-            *disk = Disk { status: READY, data1: geometry[number] as u32, ..Disk::default() };
-        }
-    }
-    encode(&machine, image);
-    index.fill(0);
-    Answer::done(NO_REASON, 0)
-}
 
 /// Run without records: on hand and next slot move, the journal's bytes stay. The
 /// index follows from records, so that none is lent.

@@ -14,7 +14,7 @@ pub fn reset(
     printer_delay: u64,
     installed: u64,
 ) -> Answer {
-    calls::reset(image, index, time_scale, printer_delay, installed, 0, [0; 8])
+    crate::reset::reset(image, index, time_scale, printer_delay, installed, 0, [0; 8])
 }
 
 pub fn run(

@@ -12,6 +12,12 @@ pub struct Lengths {
     pub disks: [usize; 8],
 }
 
+impl Lengths {
+    pub fn of(ram: &[u8], paper: &[u8], journal: &[u8], disks: [usize; 8]) -> Lengths {
+        Lengths { ram: ram.len(), paper: paper.len(), journal: journal.len(), disks }
+    }
+}
+
 /// The place in paper of printer k's byte: its count before the step, from the
 /// start of its eighth of the paper that is lent now. In a record that no step
 /// has written it may be the next eighth's first place; it is judged by the

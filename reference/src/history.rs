@@ -7,25 +7,11 @@ use std::rc::Rc;
 
 use crate::answer::{Answer, BUDGET_SPENT, NO_REASON};
 use crate::calls::run;
+use crate::checkpoint::{Checkpoint, Roms};
 use crate::give_back::Lengths;
 use crate::image::{decode, encode};
 use crate::sizes::{budget_fits, disks_fit, record_slots};
 use crate::take_back::take_back_refusal;
-
-struct Roms {
-    execution: Vec<u8>,
-    bootstrap: Vec<u8>,
-}
-
-struct Checkpoint {
-    at: u64,
-    image: Vec<u8>,
-    ram: Vec<u8>,
-    paper: Vec<u8>,
-    disks: [Vec<u8>; 8],
-    journal_len: usize,
-    roms: Rc<Roms>,
-}
 
 /// The steps of one machine, as far back as its journal reaches.
 pub struct History {
@@ -54,7 +40,7 @@ impl History {
         journal: &mut [u8],
         mut disks: [&mut [u8]; 8],
         budget: u64,
-        stop_at_exceptions: u64,
+        stop: u64,
     ) -> Answer {
         let roms =
             Rc::new(Roms { execution: execution_rom.to_vec(), bootstrap: bootstrap_rom.to_vec() });
@@ -62,26 +48,10 @@ impl History {
         let mut part = if budget_fits(budget) { budget.min(self.every) } else { budget };
         let mut total = 0;
         loop {
-            let before = Checkpoint {
-                at: self.now,
-                image: image.to_vec(),
-                ram: ram.to_vec(),
-                paper: paper.to_vec(),
-                disks: std::array::from_fn(|number| disks[number].to_vec()),
-                journal_len: journal.len(),
-                roms: Rc::clone(&roms),
-            };
-            let answer = run(
-                image,
-                execution_rom,
-                bootstrap_rom,
-                ram,
-                paper,
-                journal,
-                disks.each_mut().map(|disk| &mut **disk),
-                part,
-                stop_at_exceptions,
-            );
+            let before = Checkpoint::of(self.now, &roms, image, ram, paper, &disks, journal.len());
+            let Roms { execution, bootstrap } = &*roms;
+            let lent = disks.each_mut().map(|disk| &mut **disk);
+            let answer = run(image, execution, bootstrap, ram, paper, journal, lent, part, stop);
             if answer.number != 0 {
                 return answer;
             }
@@ -115,15 +85,10 @@ impl History {
         ram: &mut [u8],
         paper: &mut [u8],
         journal: &mut [u8],
-        mut disks: [&mut [u8]; 8],
+        disks: [&mut [u8]; 8],
         count: u64,
     ) -> Option<Answer> {
-        let lengths = Lengths {
-            ram: ram.len(),
-            paper: paper.len(),
-            journal: journal.len(),
-            disks: disks.each_ref().map(|disk| disk.len()),
-        };
+        let lengths = Lengths::of(ram, paper, journal, disks.each_ref().map(|disk| disk.len()));
         let refusal = take_back_refusal(image, &lengths, count);
         if refusal != 0 {
             return Some(Answer::refused(refusal));
@@ -137,28 +102,12 @@ impl History {
         let target = self.now.checked_sub(count)?;
         let nearest = self.last_at_or_before(target)?;
         let checkpoint = &self.checkpoints[nearest];
-        let lent_then = (checkpoint.ram.len(), checkpoint.paper.len(), checkpoint.journal_len);
-        if lent_then != (ram.len(), paper.len(), journal.len()) {
+        if !checkpoint.is_of(&lengths) {
             return None;
         }
-        let mut restored = checkpoint.image.clone();
-        ram.copy_from_slice(&checkpoint.ram);
-        paper.copy_from_slice(&checkpoint.paper);
-        for (disk, before) in disks.iter_mut().zip(&checkpoint.disks) {
-            disk.copy_from_slice(before);
-        }
-        let replayed = run(
-            &mut restored,
-            &checkpoint.roms.execution,
-            &checkpoint.roms.bootstrap,
-            ram,
-            paper,
-            journal,
-            disks,
-            target - checkpoint.at,
-            0,
-        );
-        assert_eq!(replayed, Answer::done(BUDGET_SPENT, (target - checkpoint.at) as u32));
+        let steps = target - checkpoint.at;
+        let (replayed, mut restored) = checkpoint.replay(ram, paper, journal, disks, steps);
+        assert_eq!(replayed, Answer::done(BUDGET_SPENT, steps as u32));
         place_in_journal(&mut restored, image, journal.len(), count as u32);
         image.copy_from_slice(&restored);
         self.checkpoints.truncate(nearest + 1);

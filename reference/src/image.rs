@@ -63,6 +63,11 @@ pub fn decode(image: &[u8]) -> Machine {
     assert_eq!(image.len(), PRESENT.bytes());
     let mut from = Reader(image[FIRST_WORD..].chunks_exact(4));
     let mut machine = old_words(&mut from);
+    disk_words(&mut machine, &mut from);
+    machine
+}
+
+fn disk_words(machine: &mut Machine, from: &mut Reader) {
     machine.disks_installed = from.word();
     for (number, disk) in machine.disks.iter_mut().enumerate() {
         *disk = Disk {
@@ -79,7 +84,6 @@ pub fn decode(image: &[u8]) -> Machine {
         }
     }
     machine.disks_pending = from.word();
-    machine
 }
 
 /// Reads the words of an image of the version before. What it lacks is 0.
@@ -90,6 +94,22 @@ pub(crate) fn decode_old(image: &[u8]) -> Machine {
 
 fn old_words(from: &mut Reader) -> Machine {
     let mut machine = Machine::default();
+    processor_words(&mut machine, from);
+    let clock_high = from.word();
+    let clock_low = from.word();
+    machine.clock = u64::from(clock_high) << 32 | u64::from(clock_low);
+    machine.timer = from.word();
+    machine.time_scale = from.word();
+    machine.printer_delay = from.word();
+    printer_words(&mut machine, from);
+    machine.on_hand = from.word();
+    machine.next_slot = from.word();
+    machine.slot_flag = from.word();
+    machine.branch_address = from.word();
+    machine
+}
+
+fn processor_words(machine: &mut Machine, from: &mut Reader) {
     for register in &mut machine.registers[1..] {
         *register = from.word();
     }
@@ -108,12 +128,9 @@ fn old_words(from: &mut Reader) -> Machine {
     for entry in &mut machine.tlb {
         *entry = Entry { high: from.word(), low: from.word() };
     }
-    let clock_high = from.word();
-    let clock_low = from.word();
-    machine.clock = u64::from(clock_high) << 32 | u64::from(clock_low);
-    machine.timer = from.word();
-    machine.time_scale = from.word();
-    machine.printer_delay = from.word();
+}
+
+fn printer_words(machine: &mut Machine, from: &mut Reader) {
     machine.installed = from.word();
     for (number, printer) in machine.printers.iter_mut().enumerate() {
         *printer = Printer {
@@ -128,11 +145,6 @@ fn old_words(from: &mut Reader) -> Machine {
         }
     }
     machine.pending = from.word();
-    machine.on_hand = from.word();
-    machine.next_slot = from.word();
-    machine.slot_flag = from.word();
-    machine.branch_address = from.word();
-    machine
 }
 
 /// Writes a whole image of the present version.
@@ -140,6 +152,21 @@ pub fn encode(machine: &Machine, image: &mut [u8]) {
     assert_eq!(image.len(), PRESENT.bytes());
     image[..FIRST_WORD].copy_from_slice(&PRESENT.head());
     let mut to = Writer(image[FIRST_WORD..].chunks_exact_mut(4));
+    write_processor(machine, &mut to);
+    to.word((machine.clock >> 32) as u32);
+    to.word(machine.clock as u32);
+    to.word(machine.timer);
+    to.word(machine.time_scale);
+    to.word(machine.printer_delay);
+    write_printers(machine, &mut to);
+    to.word(machine.on_hand);
+    to.word(machine.next_slot);
+    to.word(machine.slot_flag);
+    to.word(machine.branch_address);
+    write_disks(machine, &mut to);
+}
+
+fn write_processor(machine: &Machine, to: &mut Writer) {
     for register in &machine.registers[1..] {
         to.word(*register);
     }
@@ -159,11 +186,9 @@ pub fn encode(machine: &Machine, image: &mut [u8]) {
         to.word(entry.high);
         to.word(entry.low);
     }
-    to.word((machine.clock >> 32) as u32);
-    to.word(machine.clock as u32);
-    to.word(machine.timer);
-    to.word(machine.time_scale);
-    to.word(machine.printer_delay);
+}
+
+fn write_printers(machine: &Machine, to: &mut Writer) {
     to.word(machine.installed);
     for printer in &machine.printers {
         to.word(printer.status);
@@ -173,10 +198,9 @@ pub fn encode(machine: &Machine, image: &mut [u8]) {
         to.word(printer.paper_count);
     }
     to.word(machine.pending);
-    to.word(machine.on_hand);
-    to.word(machine.next_slot);
-    to.word(machine.slot_flag);
-    to.word(machine.branch_address);
+}
+
+fn write_disks(machine: &Machine, to: &mut Writer) {
     to.word(machine.disks_installed);
     for disk in &machine.disks {
         to.word(disk.status);

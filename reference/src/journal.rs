@@ -2,8 +2,10 @@
 
 use crate::answer::Answer;
 use crate::calls::{move_on, run_steps};
+use crate::exception::Exception;
 use crate::index::{drop_oldest, note_places, note_step};
 use crate::layout::*;
+use crate::look::Instruction;
 use crate::machine::{Entry, Machine};
 use crate::memory::Memory;
 use crate::record::{NoRecord, Recorder};
@@ -134,21 +136,35 @@ pub fn run_with_records(
                 return take(machine, memory, &mut NoRecord, coming);
             }
             let record = slot(journal, machine.next_slot);
-            let most_below = slots - 1;
-            if machine.on_hand == slots {
-                drop_oldest(index, record, machine.clock.wrapping_sub(most_below.into()));
-            }
-            let below = machine.on_hand.min(most_below);
-            let mut writer = RecordWriter::start(record, machine, memory);
-            let disks = writer.disks;
-            let entered = take(machine, memory, &mut writer, coming);
-            if disks {
-                note_places(index, record, memory.ram, machine.clock, below);
-            } else {
-                note_step(index, record, memory.ram, machine.clock, below);
-            }
+            let entered = take_recorded(machine, memory, coming, record, index, slots);
             move_on(machine, slots);
             entered
         },
     )
+}
+
+/// One step with its record, which may stand over the oldest one on hand.
+#[inline(always)]
+fn take_recorded(
+    machine: &mut Machine,
+    memory: &mut Memory,
+    coming: Result<Instruction, Exception>,
+    record: &mut Record,
+    index: &mut [u8],
+    slots: u32,
+) -> bool {
+    let most_below = slots - 1;
+    if machine.on_hand == slots {
+        drop_oldest(index, record, machine.clock.wrapping_sub(most_below.into()));
+    }
+    let below = machine.on_hand.min(most_below);
+    let mut writer = RecordWriter::start(record, machine, memory);
+    let disks = writer.disks;
+    let entered = take(machine, memory, &mut writer, coming);
+    if disks {
+        note_places(index, record, memory.ram, machine.clock, below);
+    } else {
+        note_step(index, record, memory.ram, machine.clock, below);
+    }
+    entered
 }

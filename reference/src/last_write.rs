@@ -33,12 +33,7 @@ pub fn last_write(
     address: u64,
     answer: &mut [u8],
 ) -> Answer {
-    let lengths = Lengths {
-        ram: ram.len(),
-        paper: paper.len(),
-        journal: journal.len(),
-        disks: disks.map(<[u8]>::len),
-    };
+    let lengths = Lengths::of(ram, paper, journal, disks.map(<[u8]>::len));
     // Without steps to take back row 7 can not arise.
     let refusal = take_back_refusal(image, &lengths, 0);
     if refusal != 0 {

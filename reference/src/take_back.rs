@@ -20,12 +20,7 @@ pub fn take_back(
     mut disks: [&mut [u8]; 8],
     steps: u64,
 ) -> Answer {
-    let lengths = Lengths {
-        ram: ram.len(),
-        paper: paper.len(),
-        journal: journal.len(),
-        disks: std::array::from_fn(|number| disks[number].len()),
-    };
+    let lengths = Lengths::of(ram, paper, journal, disks.each_ref().map(|disk| disk.len()));
     let refusal = take_back_refusal(image, &lengths, steps);
     if refusal != 0 {
         return Answer::refused(refusal);

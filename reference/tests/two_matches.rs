@@ -5,7 +5,7 @@ mod common;
 
 use common::asm::*;
 use common::*;
-use reference::{Answer, History, Status, BUDGET_SPENT, EXCEPTION, TWO_MATCHES};
+use reference::{decode, no_disks, Answer, History, Status, BUDGET_SPENT, EXCEPTION, TWO_MATCHES};
 
 const CODE: u32 = 0x8000_0000;
 const DATA: u32 = 0x9000_0000;
@@ -324,50 +324,28 @@ fn item_6_taking_back_behind_a_halt() {
     }
 }
 
+fn through(history: &mut History, bench: &mut Bench, budget: u64) -> Answer {
+    let mut image = bench.image();
+    let Bench { execution, bootstrap, ram, paper, journal, .. } = bench;
+    let disks = no_disks();
+    let answer =
+        history.run(&mut image, execution, bootstrap, ram, paper, journal, disks, budget, 0);
+    bench.machine = decode(&image);
+    answer
+}
+
 #[test]
 fn item_6_a_history_without_records_halts_too() {
-    let start = doubled(&[NOP, NOP, NOP, lw(6, 0, 4)]);
-    let (mut image, mut bench) = (start.image(), start);
+    let mut bench = doubled(&[NOP, NOP, NOP, lw(6, 0, 4)]);
     let mut history = History::new(2);
-    let Bench { execution, bootstrap, ram, paper, journal, .. } = &mut bench;
-    let answer = history.run(
-        &mut image,
-        execution,
-        bootstrap,
-        ram,
-        paper,
-        journal,
-        reference::no_disks(),
-        50,
-        0,
-    );
-    assert_eq!(answer, Answer::done(TWO_MATCHES, 3));
-    let answer = history.take_back(&mut image, ram, paper, journal, reference::no_disks(), 2);
+    assert_eq!(through(&mut history, &mut bench, 50), Answer::done(TWO_MATCHES, 3));
+    let mut image = bench.image();
+    let Bench { ram, paper, journal, .. } = &mut bench;
+    let answer = history.take_back(&mut image, ram, paper, journal, no_disks(), 2);
     assert_eq!(answer, Some(Answer::done(0, 2)));
-    let answer = history.run(
-        &mut image,
-        execution,
-        bootstrap,
-        ram,
-        paper,
-        journal,
-        reference::no_disks(),
-        2,
-        0,
-    );
-    assert_eq!(answer, Answer::done(BUDGET_SPENT, 2));
-    let answer = history.run(
-        &mut image,
-        execution,
-        bootstrap,
-        ram,
-        paper,
-        journal,
-        reference::no_disks(),
-        1,
-        0,
-    );
-    assert_eq!(answer, Answer::done(TWO_MATCHES, 0));
+    bench.machine = decode(&image);
+    assert_eq!(through(&mut history, &mut bench, 2), Answer::done(BUDGET_SPENT, 2));
+    assert_eq!(through(&mut history, &mut bench, 1), Answer::done(TWO_MATCHES, 0));
 }
 
 #[test]

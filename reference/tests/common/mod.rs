@@ -3,6 +3,7 @@
 
 pub mod asm;
 pub mod dice;
+pub mod disks;
 pub mod states;
 
 use reference::{
@@ -190,6 +191,8 @@ impl Bench {
     /// One step by its definition, in or out of a run, and without the journal.
     /// Tells whether it entered an exception.
     pub fn step(&mut self) -> bool {
+        // What follows from the image, and is not part of it, is worked out anew.
+        self.machine = decode(&self.image());
         let mut memory = Memory {
             execution_rom: &self.execution,
             bootstrap_rom: &self.bootstrap,
