@@ -46,7 +46,7 @@ saved-small kind which first second small = go (eqb kind 1) (eqb kind 2) (eqb ki
     go false false true = small
     go false false false = tt
 
-slot-small : (bytes : List ℕ) → length bytes ≡ 256 → Below 256 bytes → Small (recordOf bytes .saved)
+slot-small : (bytes : List ℕ) → length bytes ≡ 512 → Below 256 bytes → Small (recordOf bytes .saved)
 unfolding recordOf recordAt
 slot-small bytes long below =
     saved-small (slotWord bytes 59) (slotWord bytes 60) (slotWord bytes 61) (slotWord bytes 62) (load-small 4 bytes 244 (omega arith) below)
@@ -101,7 +101,7 @@ module _ (journal index : List ℕ) (hand next : ℕ) (w : World) where
           let long = slot-long i l in
           let some : next < n = omega (arith, sound .place, sound .most) in
           let within = back-below n next (suc i) some (omega (arith, sound .most)) in
-          subst (λ (x : ℕ). x < 256) (sym (slot-at 256 journal (slotBack n next (suc i)) j (omega arith)))
+          subst (λ (x : ℕ). x < 256) (sym (slot-at 512 journal (slotBack n next (suc i)) j (omega arith)))
           (bytes (512 * slotBack n next (suc i) + j) (omega (arith, sound .room)))
 
       says : (i : ℕ) → i < hand → wordAt (undoneTo (suc i)) place ≡ wordBefore place (writesOf (kthOf journal next (suc i))) (wordAt (undoneTo i) place)
