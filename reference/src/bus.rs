@@ -96,7 +96,8 @@ pub fn write<R: Recorder>(
     }
 }
 
-/// The recorder is told whether or not the disk will take the value.
+/// The recorder is told whether or not the disk will take the value, but only of an
+/// installed one: the words of any other are 0 and stay so.
 fn write_disk<R: Recorder>(
     machine: &mut Machine,
     memory: &Memory,
@@ -105,6 +106,9 @@ fn write_disk<R: Recorder>(
     field: u32,
     value: u32,
 ) {
+    if machine.disks_installed >> number & 1 == 0 {
+        return;
+    }
     let disk = machine.disks[number];
     let offset = DEVICES + number as u32 * DEVICE_BYTES + field;
     match field {

@@ -12,10 +12,9 @@ const READ_ERROR: u32 = 5;
 const WRITE_ERROR: u32 = 6;
 const DMA_ERROR: u32 = 7;
 
-/// An installed disk that is not busy; all others ignore writes.
+/// An installed disk that is not busy; a busy one ignores writes.
 fn idle(machine: &mut Machine, number: usize) -> Option<&mut Disk> {
-    let taken = !machine.disks_installed | machine.disks_busy;
-    (taken >> number & 1 == 0).then(|| &mut machine.disks[number])
+    (machine.disks_busy >> number & 1 == 0).then(|| &mut machine.disks[number])
 }
 
 pub fn write_data0(machine: &mut Machine, number: usize, value: u32) {

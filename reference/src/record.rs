@@ -23,8 +23,9 @@ pub trait Recorder {
     /// RAM's start. A disk may have read into it earlier in this step.
     fn ram_word(&mut self, _place: usize, _old: u32) {}
 
-    /// A store has landed on COMMAND or DATA0 of a disk, at this offset in the
-    /// device area. The disk's STATUS is that behind the step's tick.
+    /// A store has landed on COMMAND or DATA0 of an installed disk, busy or not, at
+    /// this offset in the device area. The disk's STATUS is that behind the step's
+    /// tick.
     fn disk_word(&mut self, _disk: usize, _offset: u32, _old: u32, _status: u32) {}
 
     /// A paper byte is about to be printed over. At most one for each of the

@@ -263,8 +263,10 @@ struct Met {
 }
 
 impl Met {
-    fn count(&mut self, record: &[u8]) {
+    fn count(&mut self, record: &[u8], installed: u32) {
         self.kinds[record[236] as usize] += 1;
+        // A quarter of the disks that stores are meant for are not there: no kind 4.
+        assert!(record[236] != 4 || installed >> ((record[240] - 0x50) / 0x10) & 1 == 1);
         let hows: Vec<usize> = (0..8).map(|number| record[256 + 16 * number] as usize).collect();
         hows.iter().for_each(|how| self.hows[*how] += 1);
         self.words += u64::from(hows.iter().filter(|how| **how >= 2).count() > 1);
@@ -286,7 +288,7 @@ fn compare(dice: &mut Dice, met: &mut Met) {
         }
         for age in 0..bench.machine.on_hand.min(steps) {
             let record = bench.record(age).to_vec();
-            met.count(&record);
+            met.count(&record, bench.machine.disks_installed);
         }
         assert_eq!(bench.index, afresh(&bench));
         let place = dice.pick(&[0x800, 0x804, 0xFFC, 0x1000, 0x1004]);

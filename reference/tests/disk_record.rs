@@ -102,13 +102,30 @@ fn a_register_that_a_store_landed_on() {
         let kind = [(59, 4), (60, at(6, field)), (61, old), (62, 3)];
         holds(busy.register(4, seek(1)), &[&work[..], &kind].concat());
     }
-    // There is no disk, and yet a register.
-    holds(Bench::storing(7, COMMAND, 9), &[(59, 4), (60, disk(7) + 4)]);
-    holds(Bench::storing(0, DATA0, 9), &[(59, 4), (60, disk(0) + 8)]);
     // STATUS and DATA1 are no such words, nor those of printers.
-    holds(Bench::storing(0, 0, 9), &[]);
-    holds(Bench::storing(0, DATA1, 9), &[]);
+    for field in [0, DATA1] {
+        holds(Bench::storing(0, field, 9).disk(0, geometry(1, 1, 1)), &[]);
+    }
     holds(Bench::with(&[sw(4, printer(0) + 4, 8)]), &[]);
+}
+
+/// Kind 0, with other disks there or none, and also beside one that is at work.
+#[test]
+fn registers_of_disks_that_are_not_there() {
+    for number in 0..8 {
+        for field in [COMMAND, DATA0] {
+            for value in [0, 1, seek(1), 9, read(0, 0), RAM + 0x1000] {
+                let alone = Bench::storing(number, field, value);
+                holds(alone.clone(), &[]);
+                let next = (number as usize + 1) % 8;
+                let beside = alone.disk(next, geometry(2, 1, 1));
+                holds(beside.clone(), &[]);
+                let work = [(first(next), 3), (first(next) + 1, 9 << 16)];
+                let old = (first(next) + 3, disk_word(next, 1_024 - 9));
+                holds(beside.moving(next, 4, 0x1000, 9), &[&work[..], &[old]].concat());
+            }
+        }
+    }
 }
 
 /// Reading 22: whatever meets on one word, all of them save the one before the step.
