@@ -51,9 +51,14 @@ length-found : (r : Record) → length (r .printers) ≡ 8 → length (flat (toB
 length-found r eight =
     let small = smallWords (r .timer) (r .pending) (r .paper .mask) (r .paper .bytes) in
     let printers = flat printerWords (r .printers) in
-    omega
-    (arith, length-words (found r), length-append (keptWords (r .core)) (small ++ printers), length-append small printers,
-    length-flat 5 printerWords (λ p. refl) (r .printers), eight)
+    omega (
+      arith,
+      length-words (found r),
+      length-append (keptWords (r .core)) (small ++ printers),
+      length-append small printers,
+      length-flat 5 printerWords (λ p. refl) (r .printers),
+      eight,
+    )
 
 module _ (r : Record) (slot : List ℕ) (eight : length (r .printers) ≡ 8) where
   -- what is begun leaves what the slot saved
