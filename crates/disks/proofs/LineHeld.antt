@@ -1,18 +1,19 @@
 -- The moves of the disks' line on the words that a run holds, over plain values: a disk that was put back is the one that changed.
 use Prim.Native.Nat.{ℕ, suc, _+_, _*_, _<_}
 use mathlib.Core.Path.{_≡_, refl, sym, ap, _∙_}
-use mathlib.Core.Bool.{Bool, true, false, cond}
+use mathlib.Core.Bool.{Bool, true, false, cond, _&&_}
 use mathlib.Core.List.{List, [], _∷_}
 use native.Mathlib.Nat.{add-zero}
 use native.Mathlib.Omega.{arith}
-use borrow.Author.Tests.{ne-eqb}
+use borrow.Author.Tests.{eq-eqb, ne-eqb}
+use lib.Dec.{eqb}
 use lib.ListN.{length, getD, set}
 use lib.Seq.{sets, set-getD}
 use Rattle.word.specs.Map.{withBit}
 use Rattle.device.proofs.Stored as device
 use Rattle.disk.specs.declared.Disk.{Disk}
 use Rattle.disk.specs.declared.tick.One.{One}
-use Rattle.disk.specs.Tick.{noDisk, isBusy, diskTicked, ramTicked, bytesTicked, OneIs}
+use Rattle.disk.specs.Tick.{noDisk, isBusy, isLast, finishes, diskTicked, ramTicked, bytesTicked, OneIs}
 use Rattle.disk.specs.Command.{statusOf, isRefused, commandedOf, withData}
 use Rattle.disks.specs.declared.Line.{Line}
 use Rattle.disks.specs.Tick.{turned, turnOf}
@@ -32,6 +33,17 @@ first-word words n = ap (λ (k : ℕ). getD words k 0) (add-zero (7 * n))
 pub disk-at : (words : List ℕ) (n : ℕ) → n < 8 → getD (disksIn words) n noDisk ≡ diskIn words n
 unfolding disksIn
 disk-at words n few = device.device-at noDisk 7 diskWords diskFrom (λ d. refl) same (λ d. refl) words n few
+
+-- whether a disk finishes is told by STATUS, and then by what is left
+pub not-ending : (words : List ℕ) (n : ℕ) → (getD words (7 * n) 0 ≡ 3 → ⊥) → false ≡ finishes (diskIn words n)
+not-ending words n idle =
+    let off : isBusy (diskIn words n) ≡ false = ap (λ (x : ℕ). eqb x 3) (first-word words n) ∙ ne-eqb (getD words (7 * n) 0) 3 idle in
+    ap (λ (b : Bool). b && isLast (diskIn words n)) (sym off)
+
+pub ending-told : (words : List ℕ) (n : ℕ) {d : Disk} {last : Bool} → getD words (7 * n) 0 ≡ 3 → d ≡ diskIn words n → last ≡ isLast d → last ≡ finishes (diskIn words n)
+ending-told words n works is e =
+    let on : isBusy (diskIn words n) ≡ true = ap (λ (x : ℕ). eqb x 3) (first-word words n) ∙ eq-eqb (getD words (7 * n) 0) 3 works in
+    e ∙ ap isLast is ∙ ap (λ (b : Bool). b && isLast (diskIn words n)) (sym on)
 
 -- seven words stored one after the other
 pub store-seven : (l : List ℕ) (at a b c d e f g : ℕ) →

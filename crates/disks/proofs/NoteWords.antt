@@ -1,25 +1,27 @@
--- The words of eight disks laid down one after the other; and where no disk is busy they are all 0.
-use Prim.Native.Nat.{ℕ, zero, suc, _<_}
+-- The words of eight disks laid down one after the other and read back; and where no disk is busy they are all 0.
+use Prim.Native.Nat.{ℕ, zero, suc, _+_, _*_, _^_, _≤_, _<_}
 use mathlib.Core.Path.{_≡_, refl, sym, ap, _∙_}
 use mathlib.Core.Bool.{false}
 use mathlib.Core.List.{List, [], _∷_, _++_}
 use native.Mathlib.Decide.{decLt}
+use native.Mathlib.Nat.{add-zero}
 use native.Mathlib.Omega.{arith}
 use lib.ListN.{length, getD, replicate}
 use lib.Seq.{sets}
-use Rattle.word.specs.Lists.{tabulate, flat}
-use Rattle.word.proofs.Lists.{sets-append, sets-whole, tabulate-ext}
+use Rattle.word.specs.Lists.{tabulate, flat, joined, Below}
+use Rattle.word.proofs.Lists.{sets-append, sets-whole, length-tabulate, getD-tabulate, tabulate-ext, tabulate-getD, flat-append, flat-at}
 use Rattle.device.specs.Line.{someOf}
 use Rattle.device.proofs.Passed.{neither}
 use Rattle.disk.specs.declared.Disk.{Disk}
 use Rattle.disk.specs.declared.saved.Kept.{Kept}
 use Rattle.disk.specs.Tick.{noDisk, isBusy}
 use Rattle.disk.specs.Saved.{noKept}
-use Rattle.disk.specs.Words.{fourWord, keptWords}
+use Rattle.disk.specs.Words.{fourWord, keptWords, keptFrom, Ranged}
 use Rattle.word.specs.Little.{fromBytes}
 use Rattle.disk.proofs.Given.{idle-kept}
+use Rattle.disk.proofs.KeptWords.{words-back, kept-back}
 use Rattle.disks.specs.Tick.{Spinning, anyBusy}
-use Rattle.disks.specs.Saved.{keptAt, noteOf, noteWords}
+use Rattle.disks.specs.Saved.{keptAt, noteOf, noteWords, keptIn, keptsIn}
 use Rattle.disks.proofs.Passed.{old, store}
 
 module _ (l l0 l1 l2 l3 l4 l5 l6 l7 : List ℕ) (k0 k1 k2 k3 k4 k5 k6 k7 : Kept) where
@@ -52,6 +54,50 @@ module _ (l l0 l1 l2 l3 l4 l5 l6 l7 : List ℕ) (k0 k1 k2 k3 k4 k5 k6 k7 : Kept)
       let t5 : sets l4 20 f5 ≡ sets l5 24 f6 = sets-append (keptWords k5) f6 l4 20 ∙ ap (λ (m : List ℕ). sets m 24 f6) (sym e5) in
       let t6 : sets l5 24 f6 ≡ sets l6 28 f7 = sets-append (keptWords k6) f7 l5 24 ∙ ap (λ (m : List ℕ). sets m 28 f7) (sym e6) in
       e7 ∙ sym (t0 ∙ t1 ∙ t2 ∙ t3 ∙ t4 ∙ t5 ∙ t6) ∙ sets-whole l (flat keptWords all) (sym long)
+
+-- ---- read back
+
+-- what has room in its words
+pub note-back : (s : Spinning) → ((n : ℕ) → n < 8 → Ranged (keptAt s n)) → keptsIn (noteWords s) ≡ noteOf s .kept
+unfolding noteWords keptsIn
+note-back s room = tabulate-ext 8 (keptIn (noteWords s)) (keptAt s) one
+  where
+    word : (n : ℕ) → n < 8 → (j : ℕ) → j < 4 → getD (flat keptWords (tabulate 8 (keptAt s))) (4 * n + j) 0 ≡ getD (keptWords (keptAt s n)) j 0
+    word n few j l =
+        let inside : n < length (tabulate 8 (keptAt s)) = rw (length-tabulate 8 (keptAt s)) few in
+        flat-at 4 keptWords (λ k. refl) (tabulate 8 (keptAt s)) noKept n j inside l ∙ ap (λ (k : Kept). getD (keptWords k) j 0) (getD-tabulate 8 (keptAt s) n noKept few)
+
+    one : (n : ℕ) → n < 8 → keptIn (flat keptWords (tabulate 8 (keptAt s))) n ≡ keptAt s n
+    one n few =
+        let first = ap (λ (m : ℕ). getD (flat keptWords (tabulate 8 (keptAt s))) m 0) (sym (add-zero (4 * n))) ∙ word n few 0 (omega arith) in
+        rw (first, word n few 1 (omega arith), word n few 2 (omega arith), word n few 3 (omega arith)) (kept-back (keptAt s n) (room n few))
+
+-- words of 32 bits, read and laid down again
+module _ (words : List ℕ) (small : Below (2 ^ 32) words) (all-there : length words ≡ 32) where
+  abbrev row : ℕ → List ℕ
+  row n = getD words (4 * n) 0 ∷ getD words (4 * n + 1) 0 ∷ getD words (4 * n + 2) 0 ∷ getD words (4 * n + 3) 0 ∷ []
+
+  rows : (n : ℕ) → n ≤ 8 → flat keptWords (tabulate n (keptIn words)) ≡ joined (tabulate n row)
+  rows zero h = refl
+  rows (suc n) h =
+      let first : 4 * n < length words = omega (arith, all-there) in
+      let second : 4 * n + 1 < length words = omega (arith, all-there) in
+      let fourth : 4 * n + 3 < length words = omega (arith, all-there) in
+      rw (
+        flat-append keptWords (tabulate n (keptIn words)) (keptIn words n ∷ []),
+        flat-append (λ (group : List ℕ). group) (tabulate n row) (row n ∷ []),
+        rows n (omega arith),
+        words-back (getD words (4 * n) 0) (getD words (4 * n + 1) 0) (getD words (4 * n + 2) 0) (getD words (4 * n + 3) 0)
+            (small (4 * n) first) (small (4 * n + 1) second) (small (4 * n + 3) fourth),
+      )
+
+  in-order : joined (tabulate 8 row) ≡ tabulate 32 (λ (i : ℕ). getD words i 0)
+  in-order = refl
+
+  pub words-again : flat keptWords (keptsIn words) ≡ words
+  unfolding keptsIn
+  words-again =
+      rows 8 (omega arith) ∙ in-order ∙ ap (λ (n : ℕ). tabulate n (λ (i : ℕ). getD words i 0)) (sym all-there) ∙ tabulate-getD words 0
 
 -- ---- no disk is busy
 

@@ -1,5 +1,5 @@
 -- What a record keeps of all eight disks, and how it is given back: a store's word first, then the disks, the last first.
-use Prim.Native.Nat.{ℕ, zero, suc}
+use Prim.Native.Nat.{ℕ, zero, suc, _+_, _*_}
 use mathlib.Core.Bool.{Bool, cond}
 use mathlib.Core.List.{List, []}
 use lib.ListN.{getD, set}
@@ -8,7 +8,7 @@ use Rattle.word.specs.Sizes.{devices}
 use Rattle.disk.specs.declared.Disk.{Disk}
 use Rattle.disk.specs.declared.saved.Kept.{Kept}
 use Rattle.disk.specs.Tick.{noDisk}
-use Rattle.disk.specs.Words.{keptWords}
+use Rattle.disk.specs.Words.{keptWords, keptFrom}
 use Rattle.disk.specs.Saved.{noKept, keptOf, givenBack, ramBack, bytesBack}
 use Rattle.disks.specs.declared.Line.{Line}
 use Rattle.disks.specs.Tick.{Spinning, spinning, Turned, turned, putBy}
@@ -27,6 +27,13 @@ noteOf s = record { kept = tabulate devices (keptAt s); pending = s .line .pendi
 -- as the words of a record, four a disk; they say nothing of the pending map
 unfoldable pub noteWords : Spinning → List ℕ
 noteWords s = flat keptWords (noteOf s .kept)
+
+-- and read back
+abbrev pub keptIn : List ℕ → ℕ → Kept
+keptIn words n = keptFrom (getD words (4 * n) 0) (getD words (4 * n + 1) 0) (getD words (4 * n + 2) 0) (getD words (4 * n + 3) 0)
+
+unfoldable pub keptsIn : List ℕ → List Kept
+keptsIn words = tabulate devices (keptIn words)
 
 -- disk n given back, with its bytes
 unfoldable pub backOf : ℕ → Kept → Line → List ℕ → List ℕ → Turned

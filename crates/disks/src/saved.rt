@@ -6,18 +6,20 @@ ghost use lib.Seq.{sets};
 ghost use Rattle.disk.specs.Saved.{keptOf};
 ghost use Rattle.disk.specs.Words.{keptWords};
 ghost use Rattle.disks.specs.Tick.{turned, spinning, eight};
-ghost use Rattle.disks.specs.Saved.{noteWords, backOf, undoOf};
+ghost use Rattle.disks.specs.Saved.{noteWords, keptIn, keptsIn, backOf, undoOf, wordBack, undoWord};
 ghost use Rattle.disks.specs.Words.{diskIn, lineIn};
 use crate::Line;
 use crate::words::disk_in;
+use disk::Disk;
 use disk::saved::Kept;
 use disk::saved::bytes_back;
 use disk::saved::given_back;
 use disk::saved::ram_back;
+use disk::words::kept_from;
 use disk::words::put_kept;
 
 // Disk `n` of the line given back, with its bytes.
-pub fn back(n: usize, k: Kept, line: Line, ram: &mut [u8], bytes: &mut [u8]) -> Line
+fn back(n: usize, k: Kept, line: Line, ram: &mut [u8], bytes: &mut [u8]) -> Line
     requires { ⌜ n < 8 ⌝ }
     ensures { λ r. ⌜ turned r (now (ram .exit)) (now (bytes .exit)) ≡ backOf n k line (now (ram .entry)) (now (bytes .entry)) ⌝ }
 {
@@ -75,6 +77,26 @@ pub fn keep(
     keep_one(words, 7, ram, b7, kept);
 }
 
+fn kept_in(words: &[u32; 32], n: usize) -> Kept
+    requires { ⌜ n < 8 ⌝ }
+    ensures { λ r. ⌜ r ≡ keptIn (now (words .entry)) n ⌝ }
+{
+    let at = 4 * n;
+    kept_from(words[at], words[at + 1], words[at + 2], words[at + 3])
+}
+
+// The words of a record, read back.
+pub fn kept_line(words: &[u32; 32]) -> [Kept; 8]
+    ensures { λ r. ⌜ r ≡ keptsIn (now (words .entry)) ⌝ }
+{
+    let none = kept_from(0, 0, 0, 0);
+    let mut kept = [none; 8];
+    for n in 0..8 {
+        kept[n] = kept_in(words, n);
+    }
+    kept
+}
+
 // All eight given back, the last first, each with its own bytes.
 pub fn back_line(
     kept: [Kept; 8],
@@ -112,4 +134,43 @@ pub fn back_line(
     let k0 = kept[0];
     let l0 = back(0, k0, l1, ram, b0);
     with_pending(pending, l0)
+}
+
+// COMMAND, or DATA0, of a disk as it was before a store of the step.
+fn word_back(d: Disk, data0: bool, word: u32, status: u32) -> Disk
+    ensures { λ r. ⌜ r ≡ wordBack data0 word status d ⌝ }
+{
+    if data0 {
+        return Disk {
+            status,
+            command: d.command,
+            data0: word,
+            data1: d.data1,
+            ticks: 0,
+            words: 0,
+            cylinder: d.cylinder,
+        };
+    }
+    Disk {
+        status,
+        command: word,
+        data0: d.data0,
+        data1: d.data1,
+        ticks: 0,
+        words: 0,
+        cylinder: d.cylinder,
+    }
+}
+
+// A store to COMMAND, or to DATA0, of disk `n` taken back, before the disks are given back.
+pub fn undo_word(line: Line, data0: bool, n: usize, word: u32, status: u32) -> Line
+    requires { ⌜ n < 8 ⌝ }
+    ensures { λ r. ⌜ r ≡ undoWord data0 n word status line ⌝ }
+{
+    let pending = line.pending;
+    let mut disks = line.disks;
+    let d = disks[n];
+    let was = word_back(d, data0, word, status);
+    disks[n] = was;
+    Line { disks, pending }
 }

@@ -2,12 +2,14 @@
 ghost use mathlib.Core.Path.{_≡_};
 ghost use Prim.Native.Nat.{_<_};
 ghost use lib.ListN.{length};
-ghost use Rattle.disks.specs.Tick.{anyBusy, eight};
-ghost use Rattle.disks.specs.Words.{disksIn, TurnIs, TicksIs};
+ghost use Rattle.disk.specs.Tick.{finishes};
+ghost use Rattle.disks.specs.Tick.{anyBusy, anyEnding, eight};
+ghost use Rattle.disks.specs.Words.{diskIn, disksIn, TurnIs, TicksIs};
 use crate::words::disk_in;
 use crate::words::put_disk;
 use device::pending_on;
 use disk::BUSY;
+use disk::tick::is_last;
 use disk::tick::tick_one;
 
 // The tick of disk `n`, with its bytes: the pending map after it.
@@ -62,6 +64,27 @@ pub fn is_spinning(words: &[u32; 56]) -> bool
     let mut some = false;
     for n in 0..8 {
         some = some | (words[7 * n] == BUSY);
+    }
+    some
+}
+
+fn ends(words: &[u32; 56], n: usize) -> bool
+    requires { ⌜ n < 8 ⌝ }
+    ensures { λ r. ⌜ r ≡ finishes (diskIn (now (words .entry)) n) ⌝ }
+{
+    if words[7 * n] != BUSY {
+        return false;
+    }
+    is_last(disk_in(words, n))
+}
+
+// Whether a disk finishes at the next tick: with the pending map, all that an interrupt waits for (proofs/Ticks: pending-after).
+pub fn is_ending(words: &[u32; 56]) -> bool
+    ensures { λ r. ⌜ r ≡ anyEnding (disksIn (now (words .entry))) ⌝ }
+{
+    let mut some = false;
+    for n in 0..8 {
+        some = some | ends(words, n);
     }
     some
 }
