@@ -270,7 +270,7 @@ uint64_t station_panel_turn(uint64_t *session, uint64_t event,
 #define STATION_GDB_OUT_BYTES 131072
 #define STATION_GDB_PACKET_BYTES 16384
 #define STATION_GDB_REPLY_BYTES 65536
-#define STATION_GDB_KEPT_BYTES 590592
+#define STATION_GDB_KEPT_BYTES 328448
 
 enum {
     /* How many bytes of `in` the turn used. */

@@ -8,7 +8,7 @@ pub const IN_BYTES: usize = 65_536;
 pub const OUT_BYTES: usize = 131_072;
 pub const PACKET_BYTES: usize = 16_384;
 pub const REPLY_BYTES: usize = 65_536;
-pub const KEPT_BYTES: usize = 328_192;
+pub const KEPT_BYTES: usize = 328_448;
 const WORD_USED: usize = 0;
 const WORD_SAID: usize = 1;
 

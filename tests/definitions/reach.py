@@ -28,7 +28,10 @@ STATEMENTS = [
     "lastChangeOf", "newestAtOf", "oldestAtOf", "Tells", "pcsAgo", "agoIn", "TellsLast",
     "isa.encodeOf", "isa.Proper",
     "remote.heardOf", "remote.toldOf", "remote.Within", "remote.Says",
-    "commandOf", "text.numberOf", "text.Laid", "text.decimalOf", "text.groupedOf", "text.signedOf", "text.hexOf",
+    # the disks of document 02, L4, which no call reaches before the step has them
+    "disks.tickedOf", "disks.commandOf", "disks.dataOf", "disks.lineKeeps", "disks.shownOf", "disks.noteOf", "disks.noteWords",
+    "disks.undoOf", "disks.undoWord", "disks.wordOf", "disks.keptsIn", "disks.lineIn", "disks.diskWords", "disks.eight", "disk.resetOf", "disk.sizeKeeps", "disk.keptFits", "disk.keptFrom",
+    "command.commandOf", "text.numberOf", "text.Laid", "text.decimalOf", "text.groupedOf", "text.signedOf", "text.hexOf",
 ]
 
 # Below this line a file has aids to the proofs of the code. A file of nothing else begins with it.

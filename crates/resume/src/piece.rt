@@ -25,7 +25,7 @@ use stub::words::TWO_MATCHES;
 use stub::words::UNSEEN;
 
 // The most steps of a piece whose records are looked at, and of one with nothing to look for.
-const LOOKED_AT: usize = 1024;
+const LOOKED_AT: usize = 512;
 
 const PLAIN: usize = 100_000;
 

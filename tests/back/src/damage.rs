@@ -15,7 +15,7 @@ pub struct Spot<'a> {
 
 pub type Damage = (&'static str, fn(&mut Spot, &mut Dice));
 
-pub const DAMAGES: [Damage; 50] = [
+pub const DAMAGES: [Damage; 49] = [
     ("one bit", |spot, dice| bits(spot, dice, 1)),
     ("two bits", |spot, dice| bits(spot, dice, 2)),
     ("three bits", |spot, dice| bits(spot, dice, 3)),
@@ -97,9 +97,6 @@ pub const DAMAGES: [Damage; 50] = [
         let (near, far) = (dice.below(20), 1 << dice.between(16, 31));
         let distance = dice.pick(&[near, 65_535, 65_536, far, far, far | near, u32::MAX]);
         spot.kind(RAM_WORD, place, dice.word(), distance);
-    }),
-    ("a register of a disk", |spot, dice| {
-        spot.kind(DISK_WORD, disk_register(dice.below(8), dice.pick(&[4, 8])), 0, 0);
     }),
     ("a register of a disk with a value", |spot, dice| {
         let [old, status] = dice.pick(&[[1, 0], [0, 1], [0, 3], [1, 1]]);
