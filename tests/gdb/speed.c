@@ -38,13 +38,13 @@ static double run(struct machine *m, uint32_t steps)
 
 int main(int argc, char **argv)
 {
-    uint32_t steps = argc > 1 ? (uint32_t)strtoul(argv[1], NULL, 10) : 1000000;
+    uint32_t steps = argc > 1 ? (uint32_t)strtoul(argv[1], NULL, 10) : 500000;
     size_t frames = argc > 2 ? strtoul(argv[2], NULL, 10) : 64;
-    struct machine m = make_machine(frames, 32768);
+    struct machine m = make_machine(frames, 16384);
     double plain = 1e9, pointed = 1e9, took;
     ask(&m, "QStartNoAckMode");
     run(&m, 200000); /* the journal is full from here on */
-    for (int i = 0; i < 7; i++) {
+    for (int i = 0; i < 15; i++) {
         took = run(&m, steps);
         plain = took < plain ? took : plain;
         ask(&m, "Z0,1fc00f00,4");
