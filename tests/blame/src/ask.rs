@@ -12,8 +12,8 @@ use crate::world::World;
 use reference::layout::RECORD_BYTES;
 
 /// A record of a store (docs/RECORD.md), and the distance in it.
-const KIND: std::ops::Range<usize> = 76..80;
-const DISTANCE: std::ops::Range<usize> = 88..92;
+const KIND: std::ops::Range<usize> = 236..240;
+const DISTANCE: std::ops::Range<usize> = 248..252;
 
 /// The journal without the distances: steps that are run again know none to a
 /// step that has fallen out of the journal since.
