@@ -151,7 +151,7 @@ const SOAK: Enough = Enough {
     records: 2_000_000,
     kinds: [500_000, 500_000, 5_000, 50_000],
     codes: [2_000, 50_000, 5_000, 20, 800, 800, 0, 800, 1_500, 800, 800, 1_500, 800],
-    slots: 50_000,
+    slots: 15_000,
     passages: 2_000,
     carries: 0,
     finished: 3_000,

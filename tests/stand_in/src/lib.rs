@@ -5,6 +5,11 @@
 
 use std::slice::{from_raw_parts, from_raw_parts_mut};
 
+#[cfg(feature = "disks")]
+pub mod with_disks;
+#[cfg(not(feature = "disks"))]
+pub mod without_disks;
+
 /// SAFETY, here and below: as include/lavushmir.h asks, each pointer and length
 /// are those of one live buffer, and none is lent twice.
 unsafe fn read<'a>(buffer: *const u8, bytes: usize) -> &'a [u8] {
@@ -19,106 +24,6 @@ unsafe fn write<'a>(buffer: *mut u8, bytes: usize) -> &'a mut [u8] {
 /// for row 5 there, and no comparison asks.
 fn has_disk(image: &[u8]) -> bool {
     reference::decode(image).disks_installed != 0
-}
-
-#[no_mangle]
-pub unsafe extern "C" fn lavushmir_reset(
-    image: *mut u8,
-    image_bytes: usize,
-    index: *mut u8,
-    index_bytes: usize,
-    time_scale: u64,
-    printer_delay: u64,
-    installed: u64,
-) -> u64 {
-    let (image, index) = (write(image, image_bytes), write(index, index_bytes));
-    reference::diskless::reset(image, index, time_scale, printer_delay, installed).packed()
-}
-
-#[no_mangle]
-pub unsafe extern "C" fn lavushmir_run(
-    image: *mut u8,
-    image_bytes: usize,
-    execution_rom: *const u8,
-    execution_rom_bytes: usize,
-    bootstrap_rom: *const u8,
-    bootstrap_rom_bytes: usize,
-    ram: *mut u8,
-    ram_bytes: usize,
-    paper: *mut u8,
-    paper_bytes: usize,
-    journal: *mut u8,
-    journal_bytes: usize,
-    index: *mut u8,
-    index_bytes: usize,
-    budget: u64,
-    stop_at_exceptions: u64,
-) -> u64 {
-    reference::diskless::run_with_records(
-        write(image, image_bytes),
-        read(execution_rom, execution_rom_bytes),
-        read(bootstrap_rom, bootstrap_rom_bytes),
-        write(ram, ram_bytes),
-        write(paper, paper_bytes),
-        write(journal, journal_bytes),
-        write(index, index_bytes),
-        budget,
-        stop_at_exceptions,
-    )
-    .packed()
-}
-
-#[no_mangle]
-pub unsafe extern "C" fn lavushmir_take_back(
-    image: *mut u8,
-    image_bytes: usize,
-    ram: *mut u8,
-    ram_bytes: usize,
-    paper: *mut u8,
-    paper_bytes: usize,
-    journal: *const u8,
-    journal_bytes: usize,
-    index: *mut u8,
-    index_bytes: usize,
-    steps: u64,
-) -> u64 {
-    reference::diskless::take_back(
-        write(image, image_bytes),
-        write(ram, ram_bytes),
-        write(paper, paper_bytes),
-        read(journal, journal_bytes),
-        write(index, index_bytes),
-        steps,
-    )
-    .packed()
-}
-
-#[no_mangle]
-pub unsafe extern "C" fn lavushmir_last_write(
-    image: *const u8,
-    image_bytes: usize,
-    ram: *const u8,
-    ram_bytes: usize,
-    paper: *const u8,
-    paper_bytes: usize,
-    journal: *const u8,
-    journal_bytes: usize,
-    index: *const u8,
-    index_bytes: usize,
-    address: u64,
-    answer: *mut u8,
-    answer_bytes: usize,
-) -> u64 {
-    reference::diskless::last_write(
-        read(image, image_bytes),
-        read(ram, ram_bytes),
-        read(paper, paper_bytes),
-        read(journal, journal_bytes),
-        read(index, index_bytes),
-        address,
-        write(answer, answer_bytes),
-    )
-    .packed()
 }
 
 #[no_mangle]
