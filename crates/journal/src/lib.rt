@@ -1,12 +1,9 @@
 // The journal over the bytes that the host lends: a step's record at the next slot, which goes round.
 ghost use mathlib.Core.Path.{_≡_};
-ghost use Prim.Native.Nat.{_+_, _*_, _/_, _≤_, _<_};
+ghost use Prim.Native.Nat.{_*_, _/_, _<_};
 ghost use lib.ListN.{length};
-ghost use lib.Seq.{sets};
-ghost use Rattle.word.specs.Lists.{flat};
-ghost use Rattle.word.specs.Little.{toBytes};
 ghost use Rattle.ring.specs.Slots.{slot, put};
-ghost use Rattle.record.specs.Layout.{unused, begunIn};
+ghost use Rattle.record.specs.Layout.{begunIn};
 ghost use Rattle.journal.specs.Journal.{ringOf, Ready, heldRecord, begunOf, endedOf};
 use memory::words::put_words;
 use printer::saved::SavedPaper;
@@ -70,18 +67,6 @@ pub fn begun(
     put_record(journal, next, core, timer, pending, paper, words);
 }
 
-// The unused words of a record, from `at` on. In one piece they would be a call of the C library at every step; of 32 words the compiler makes eight stores.
-fn put_unused(journal: &mut [u8], at: usize)
-    requires { ⌜ at + 260 ≤ length (now journal) ⌝ }
-    ensures { λ _. ⌜ now (journal .exit) ≡ sets (now (journal .entry)) at (flat (toBytes 4) unused) ⌝ }
-{
-    let many = [0u32; 32];
-    put_words(&many, journal, at);
-    put_words(&many, journal, at + 128);
-    let one = [0u32; 1];
-    put_words(&one, journal, at + 256);
-}
-
 // The second part, once the step is decided: what it overwrites. Only now the record counts. With no slots nothing is written and neither word moves.
 pub fn ended(journal: &mut [u8], mark: Journal, s: Saved) -> Journal
     requires { ⌜ Ready (now journal) mark ⌝ }
@@ -95,7 +80,8 @@ pub fn ended(journal: &mut [u8], mark: Journal, s: Saved) -> Journal
     }
     let words = saved_words(s);
     put_words(&words, journal, SLOT * next + SAVED);
-    put_unused(journal, SLOT * next + UNUSED);
+    let rest = [0u32; 65];
+    put_words(&rest, journal, SLOT * next + UNUSED);
     let after = ring::next_slot(slots, next) as u32;
     if (hand as usize) < slots {
         return Journal {

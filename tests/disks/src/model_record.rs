@@ -114,7 +114,8 @@ fn kind(fault: Fault, step: &Step, record: &mut [u8]) {
     };
     let status = if fault == StatusBehindInTheRecord { new.status } else { old.status };
     let offset = if fault == OffsetWithinTheLine { offset - 0x50 } else { offset };
-    let words = if [4, 8].contains(&field) && kept {
+    let there = step.before.disks_installed >> number & 1 != 0;
+    let words = if [4, 8].contains(&field) && kept && there {
         [DISK_WORD, offset, value, status]
     } else {
         [NOTHING, 0, 0, 0]

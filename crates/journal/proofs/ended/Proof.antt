@@ -32,28 +32,31 @@ add-put-words c = search needs
 put-words-requires : tie.Need-put-words-requires
 put-words-requires c κs = search needs
 
-mul-put-unused : tie.Need-mul-put-unused
-mul-put-unused c = search needs
+slice-aggregate-put-words-2 : tie.Need-slice-aggregate-put-words-2
+slice-aggregate-put-words-2 c = search needs
 
-add-put-unused : tie.Need-add-put-unused
-add-put-unused c = search needs
+mul-put-words-2 : tie.Need-mul-put-words-2
+mul-put-words-2 c = search needs
 
-put-unused-requires : tie.Need-put-unused-requires
-put-unused-requires c κs = search needs
+add-put-words-2 : tie.Need-add-put-words-2
+add-put-words-2 c = search needs
+
+put-words-requires-2 : tie.Need-put-words-requires-2
+put-words-requires-2 c κs = search needs
 
 next-slot-requires : tie.Need-next-slot-requires
 next-slot-requires c κs = search needs
 
 cast-after : tie.Need-cast-after
 cast-after c =
-    let start = c .before .before .before .before .before .before .before .before .before .before .before .before .before .before in
+    let start = c .before .before .before .before .before .before .before .before .before .before .before .before .before .before .before in
     omega (arith, start .pre .few, start .pre .sound .place, next-below (slotsOf (start .args .journal .now)) (start .args .mark .«next_slot») (omega (arith, start .pre .sound .place)), c .next-slot .ensures)
 
 cast-if2 : tie.Need-cast-if2
 cast-if2 c = search needs
 
-add-t20 : tie.Need-add-t20
-add-t20 c = search needs
+add-t23 : tie.Need-add-t23
+add-t23 c = search needs
 
 same-length : tie.Need-same-length
 same-length c = search needs
@@ -61,12 +64,12 @@ same-length c = search needs
 returns-2 : tie.Need-returns-2
 returns-2 c =
     let second = c .before .before .before .before in
-    let first = second .before .before .before .before in
+    let first = second .before .before .before .before .before in
     let worded = first .before .before .before in
     let start = worded .before .before .before .before in
     let at : ℕ = 512 * start .args .mark .«next_slot» + 236 in
     ended-as (start .args .mark) (start .args .journal .now) (start .args .s) _ (omega arith)
-    (stored-both (start .args .journal .now) at (512 * start .args .mark .«next_slot» + 252) (start .args .s) (omega arith) (worded .saved-words .ensures) (first .put-words .ensures) (second .put-unused .ensures))
+    (stored-both (start .args .journal .now) at (512 * start .args .mark .«next_slot» + 252) (start .args .s) (omega arith) (worded .saved-words .ensures) (first .put-words .ensures) (second .put-words2 .ensures))
     (omega (arith, start .pre .sound .most)) (c .before .next-slot .ensures)
 
 same-length-2 : tie.Need-same-length-2
@@ -75,12 +78,12 @@ same-length-2 c = search needs
 returns-3 : tie.Need-returns-3
 returns-3 c =
     let second = c .before .before .before .before in
-    let first = second .before .before .before .before in
+    let first = second .before .before .before .before .before in
     let worded = first .before .before .before in
     let start = worded .before .before .before .before in
     let at : ℕ = 512 * start .args .mark .«next_slot» + 236 in
     ended-as (start .args .mark) (start .args .journal .now) (start .args .s) _ (omega arith)
-    (stored-both (start .args .journal .now) at (512 * start .args .mark .«next_slot» + 252) (start .args .s) (omega arith) (worded .saved-words .ensures) (first .put-words .ensures) (second .put-unused .ensures))
+    (stored-both (start .args .journal .now) at (512 * start .args .mark .«next_slot» + 252) (start .args .s) (omega arith) (worded .saved-words .ensures) (first .put-words .ensures) (second .put-words2 .ensures))
     (omega (arith, start .pre .sound .most)) (c .before .next-slot .ensures)
 
 pub ended-spec : {M : Type 1} → statement M
@@ -94,13 +97,14 @@ ended-spec =
     mul-put-words
     add-put-words
     put-words-requires
-    mul-put-unused
-    add-put-unused
-    put-unused-requires
+    slice-aggregate-put-words-2
+    mul-put-words-2
+    add-put-words-2
+    put-words-requires-2
     next-slot-requires
     cast-after
     cast-if2
-    add-t20
+    add-t23
     same-length
     returns-2
     same-length-2
