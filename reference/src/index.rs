@@ -39,11 +39,16 @@ fn named(entry: &Bytes) -> Option<u64> {
 /// record may be any bytes.
 #[inline]
 pub fn drop_oldest(index: &mut [u8], record: &Record, gone: u64) {
-    if some_disk_read(record) {
-        places(record).for_each(|place| drop_place(index, place.at, gone));
+    if some_disk_worked(record) {
+        drop_places(index, record, gone);
     } else if word(record, KIND) == RAM_WORD {
         drop_place(index, word(record, WHICH), gone);
     }
+}
+
+#[cold]
+fn drop_places(index: &mut [u8], record: &Record, gone: u64) {
+    places(record).for_each(|place| drop_place(index, place.at, gone));
 }
 
 #[inline]

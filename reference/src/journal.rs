@@ -42,9 +42,10 @@ impl<'a> RecordWriter<'a> {
         set_word(record, BRANCH_ADDRESS, machine.branch_address);
         set_word(record, TIMER, machine.timer);
         set_word(record, PENDING, machine.pending);
-        for number in (PRINTED..PRINTERS).chain(KIND..DISKS_PENDING) {
-            set_word(record, number, 0);
-        }
+        // Each run of words by itself: a loop over two runs is taken word by word,
+        // where one run is a few stores.
+        record[4 * PRINTED..4 * PRINTERS].fill(0);
+        record[4 * KIND..4 * DISKS_PENDING].fill(0);
         for (number, printer) in machine.printers.iter().enumerate() {
             let at = PRINTERS + number * PRINTER_WORDS;
             set_word(record, at, printer.status);

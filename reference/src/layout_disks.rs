@@ -72,12 +72,13 @@ pub fn disk_register(offset: u32) -> Option<(usize, u32)> {
     disk_field(offset).filter(|(_, field)| matches!(*field, COMMAND | DATA0))
 }
 
-/// Whether a disk read a word into RAM. It is asked of every record that drops
-/// off, so that it looks at no more than it has to.
+/// Whether a disk may have read a word into RAM: none did where none was at work. It
+/// is asked of every record that drops off, so that it looks at no more than it has
+/// to.
 #[inline]
-pub fn some_disk_read(record: &Record) -> bool {
-    let read = |number| word(record, DISKS + number * DISK_WORDS) & 0xFFFF == READ_A_WORD;
-    (0..8).fold(false, |some, number| some | read(number))
+pub fn some_disk_worked(record: &Record) -> bool {
+    let first = |number| word(record, DISKS + number * DISK_WORDS);
+    (0..8).fold(0, |all, number| all | first(number)) != 0
 }
 
 pub(crate) fn disks_keep_layout(record: &Record) -> bool {

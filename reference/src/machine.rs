@@ -31,6 +31,8 @@ pub struct Disk {
     pub cylinder: u32,
 }
 
+/// The sixteen words from HI to the printers' pending map stand in the order in
+/// which a record has them, so that it takes four at a time.
 #[derive(Clone, Debug, Default, PartialEq, Eq)]
 pub struct Machine {
     /// Register 0 is held here as well and is always 0.
@@ -47,21 +49,21 @@ pub struct Machine {
     pub status: Status,
     pub cause: u32,
     pub epc: u32,
-    pub tlb: [Entry; 16],
-    pub clock: u64,
-    pub timer: u32,
-    pub time_scale: u32,
-    pub printer_delay: u32,
-    pub installed: u32,
-    pub printers: [Printer; 8],
-    pub pending: u32,
-    pub on_hand: u32,
-    pub next_slot: u32,
     /// 1 where the step before executed a branch or jump, so that the step to
     /// come is its slot; else 0.
     pub slot_flag: u32,
     /// The address of that branch or jump; 0 where the flag is 0.
     pub branch_address: u32,
+    pub timer: u32,
+    pub pending: u32,
+    pub tlb: [Entry; 16],
+    pub clock: u64,
+    pub time_scale: u32,
+    pub printer_delay: u32,
+    pub installed: u32,
+    pub printers: [Printer; 8],
+    pub on_hand: u32,
+    pub next_slot: u32,
     pub disks_installed: u32,
     pub disks: [Disk; 8],
     pub disks_pending: u32,
