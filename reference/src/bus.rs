@@ -77,13 +77,13 @@ fn bus_word(machine: &Machine, memory: &Memory, offset: u32) -> u32 {
 
 pub fn write<R: Recorder>(
     machine: &mut Machine,
-    memory: &Memory,
+    ram_len: usize,
     recorder: &mut R,
     offset: u32,
     value: u32,
 ) {
     if let Some((number, field)) = disk_field(offset) {
-        return write_disk(machine, memory, recorder, number, field, value);
+        return write_disk(machine, ram_len, recorder, number, field, value);
     }
     match field_on(PRINTER_LINE, offset) {
         Some((number, COMMAND)) => printer::write_command(machine, number, value),
@@ -100,7 +100,7 @@ pub fn write<R: Recorder>(
 /// installed one: the words of any other are 0 and stay so.
 fn write_disk<R: Recorder>(
     machine: &mut Machine,
-    memory: &Memory,
+    ram_len: usize,
     recorder: &mut R,
     number: usize,
     field: u32,
@@ -114,7 +114,7 @@ fn write_disk<R: Recorder>(
     match field {
         COMMAND => {
             recorder.disk_word(number, offset, disk.command, disk.status);
-            disk::write_command(machine, memory.ram.len(), number, value);
+            disk::write_command(machine, ram_len, number, value);
         }
         DATA0 => {
             recorder.disk_word(number, offset, disk.data0, disk.status);

@@ -55,7 +55,7 @@ pub fn run_recorded<R: Recorder>(
         |machine, memory, coming| {
             let start = machine.next_slot as usize * RECORD_BYTES;
             recorder.before_step(machine);
-            let entered = take(machine, memory, recorder, coming);
+            let entered = take(machine, memory, recorder, *coming);
             move_on(machine, slots);
             recorder.after_step(machine, journal.get_mut(start..start + RECORD_BYTES));
             entered
@@ -65,7 +65,8 @@ pub fn run_recorded<R: Recorder>(
 
 /// The refusals and the loop of every run, row 10 where an index is lent.
 /// `take_step` also moves the place in the journal on, and answers whether the
-/// step entered an exception.
+/// step entered an exception. What comes is lent to it and not given: behind a value
+/// in its arguments the buffers' own addresses would go to memory with each step.
 #[inline]
 pub(crate) fn run_steps(
     image: &mut [u8],
@@ -74,7 +75,7 @@ pub(crate) fn run_steps(
     index_len: Option<usize>,
     budget: u64,
     stop_at_exceptions: u64,
-    mut take_step: impl FnMut(&mut Machine, &mut Memory, Result<Instruction, Exception>) -> bool,
+    mut take_step: impl FnMut(&mut Machine, &mut Memory, &Result<Instruction, Exception>) -> bool,
 ) -> Answer {
     let refusal = run_refusal(image, &memory, journal_len, index_len, budget);
     if refusal != 0 {
@@ -92,7 +93,7 @@ pub(crate) fn run_steps(
         let Some(coming) = coming(&machine, &memory, &mut pages) else {
             break TWO_MATCHES;
         };
-        let entered = take_step(&mut machine, &mut memory, coming);
+        let entered = take_step(&mut machine, &mut memory, &coming);
         steps += 1;
         if entered && stops {
             break EXCEPTION;

@@ -74,7 +74,7 @@ fn set_pending(machine: &mut Machine, number: usize, on: bool) {
 
 /// In the order of their numbers: each sees what those before it left in RAM.
 #[cold]
-pub fn tick(machine: &mut Machine, memory: &mut Memory) {
+pub fn tick(machine: &mut Machine, memory: Memory) {
     for number in 0..8 {
         if machine.disks_busy >> number & 1 == 0 {
             continue;
@@ -113,7 +113,7 @@ pub fn finishes(disk: &Disk) -> bool {
 /// The word that the next tick will move to the place of an address, if any: of
 /// several disks the last one's stands.
 #[cold]
-pub fn word_to_come(machine: &Machine, memory: &Memory, address: u32) -> Option<u32> {
+pub fn word_to_come(machine: &Machine, disks: [&[u8]; 8], address: u32) -> Option<u32> {
     (0..8).rev().find_map(|number| {
         let disk = &machine.disks[number];
         let reads = machine.disks_busy >> number & 1 != 0 && disk.code() == READBLK;
@@ -121,7 +121,7 @@ pub fn word_to_come(machine: &Machine, memory: &Memory, address: u32) -> Option<
             return None;
         }
         let from = disk.place_on_disk() as usize;
-        let bytes = memory.disks[number][from..from + 4].try_into().expect("four bytes");
+        let bytes = disks[number][from..from + 4].try_into().expect("four bytes");
         Some(u32::from_le_bytes(bytes))
     })
 }

@@ -46,6 +46,7 @@ mod tlb;
 mod transfer;
 mod undo;
 mod word;
+mod writer;
 
 pub use answer::{Answer, BUDGET_SPENT, EXCEPTION, NO_REASON, TWO_MATCHES};
 pub use calls::{run, run_recorded};

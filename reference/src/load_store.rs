@@ -102,6 +102,6 @@ fn store_word<R: Recorder>(
         return Ok(());
     }
     let offset = device_offset(place).ok_or_else(|| Access::Store.bus_error())?;
-    bus::write(machine, memory, recorder, offset, value);
+    bus::write(machine, memory.ram.len(), recorder, offset, value);
     Ok(())
 }

@@ -15,6 +15,7 @@ use crate::pages::Pages;
 use crate::word::{opcode, rs, signed_immediate};
 
 /// What is to be executed.
+#[derive(Clone, Copy)]
 pub struct Instruction {
     pub word: u32,
     /// Where a load or store leads; 0 for all other words.
@@ -48,7 +49,7 @@ pub fn look(
 #[inline]
 fn fetched(machine: &Machine, memory: &Memory, place: u32) -> Option<u32> {
     if machine.disks_busy != 0 {
-        if let Some(word) = disk::word_to_come(machine, memory, place) {
+        if let Some(word) = disk::word_to_come(machine, memory.disks_lent_on(), place) {
             return Some(word);
         }
     }

@@ -32,6 +32,25 @@ pub fn ram_place(address: u32) -> usize {
 }
 
 impl Memory<'_> {
+    /// The same buffers, lent on by value to what is done with disks at work. If the
+    /// address of a run's own were lent, no step could keep them in registers.
+    #[inline]
+    pub(crate) fn lent_on(&mut self) -> Memory<'_> {
+        Memory {
+            execution_rom: self.execution_rom,
+            bootstrap_rom: self.bootstrap_rom,
+            ram: self.ram,
+            paper: self.paper,
+            disks: self.disks.each_mut().map(|disk| &mut **disk),
+        }
+    }
+
+    /// The disks alone, to be read.
+    #[inline]
+    pub(crate) fn disks_lent_on(&self) -> [&[u8]; 8] {
+        self.disks.each_ref().map(|disk| &**disk)
+    }
+
     pub(crate) fn disk_lengths(&self) -> [usize; 8] {
         std::array::from_fn(|number| self.disks[number].len())
     }

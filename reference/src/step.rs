@@ -33,7 +33,7 @@ pub fn take<R: Recorder>(
 ) -> bool {
     clock::tick(machine);
     if machine.disks_busy != 0 {
-        disk::tick(machine, memory);
+        disk::tick(machine, memory.lent_on());
     }
     if machine.busy != 0 {
         printer::tick(machine, memory.paper, recorder);
