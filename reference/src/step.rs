@@ -32,10 +32,11 @@ pub fn take<R: Recorder>(
     coming: Result<Instruction, Exception>,
 ) -> bool {
     clock::tick(machine);
-    if machine.disks_busy != 0 {
-        disk::tick(machine, memory.lent_on());
-    }
-    if machine.busy != 0 {
+    // One question for both: in most steps no device is at work.
+    if machine.disks_busy | machine.busy != 0 {
+        if machine.disks_busy != 0 {
+            disk::tick(machine, memory.lent_on());
+        }
         printer::tick(machine, memory.paper, recorder);
     }
     let done = coming.and_then(|instruction| execute(machine, memory, recorder, instruction));
