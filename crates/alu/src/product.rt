@@ -4,7 +4,7 @@ ghost use Rattle.alu.specs.HiLo.{mult_of, multu_of, split};
 
 use crate::sign::{taken_apart, with_sign64};
 
-#[derive(Drop)]
+#[derive(Clone, Copy)]
 pub struct HiLo {
     pub hi: u32,
     pub lo: u32,

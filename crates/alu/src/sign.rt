@@ -2,7 +2,7 @@
 ghost use Rattle.std.specs.Prelude.{◌≡◌, pos, int_lt, unsigned_abs};
 ghost use Rattle.word.specs.Number.{signed, bits, with_sign};
 
-#[derive(Drop)]
+#[derive(Clone, Copy)]
 pub struct Sized {
     pub negative: bool,
     pub size: u32,

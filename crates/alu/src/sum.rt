@@ -5,7 +5,7 @@ ghost use Rattle.alu.specs.Sum.{exactly, add_of, sub_of, addi_of, addu_of, subu_
 
 use crate::extend::extend16;
 
-#[derive(Drop)]
+#[derive(Clone, Copy)]
 pub enum Added {
     Sum(u32),
     Overflow,

@@ -4,7 +4,7 @@ ghost use Rattle.answer.specs.Lent.{ram_fits, roms_fit, paper_fits, journal_fits
 
 use crate::Refusal;
 
-#[derive(Drop)]
+#[derive(Clone, Copy)]
 pub enum Test {
     Passed,
     Failed(Refusal),

@@ -1,10 +1,11 @@
 // What a call answers: done with steps and a stop reason, or one of document 01's refusals.
+#![tactic(auto)]
 ghost use Rattle.std.specs.Prelude.{◌≡◌, ◌<◌};
 ghost use Rattle.answer.specs.Answer.{reason_number, refusal_number, number_of, packed_of};
 
 pub mod lent; // the lengths of what is lent
 
-#[derive(Drop)]
+#[derive(Clone, Copy)]
 pub enum Reason {
     NoReason,
     BudgetSpent,
@@ -12,7 +13,7 @@ pub enum Reason {
     TwoMatches, // document 02, L5
 }
 
-#[derive(Drop)]
+#[derive(Clone, Copy)]
 pub enum Refusal {
     Ram,
     Rom,
@@ -28,7 +29,7 @@ pub enum Refusal {
     Room,
 }
 
-#[derive(Drop)]
+#[derive(Clone, Copy)]
 pub enum Answer {
     Done(u32, Reason), // steps
     Refused(Refusal),

@@ -1,5 +1,6 @@
 // Taking back steps: one pass over the newest records that checks and writes nothing, one that undoes. A call that can be refused for other reasons asks the
 // first before it lets the second write.
+#![tactic(auto)]
 ghost use Rattle.std.specs.Prelude.{◌≡◌, ◌≤◌, length};
 ghost use Rattle.ring.specs.Back.{done};
 ghost use Rattle.journal.specs.Journal.{Ready};
@@ -14,7 +15,7 @@ use state::machine::{Journal, Machine};
 mod fitting; // the pass that checks
 mod undoing; // the pass that undoes
 
-#[derive(Drop)]
+#[derive(Clone, Copy)]
 pub enum Answer {
     Done,
     TooFar,

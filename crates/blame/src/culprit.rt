@@ -5,7 +5,7 @@ use message::blame::{Culprit, Frame, frame_changed, frame_kept};
 use word::big::word_at;
 
 // The step that last changed the word at `address`, and whether the machine is to stay before it.
-#[derive(Drop)]
+#[derive(Clone, Copy)]
 pub struct Step {
     pub address: u64,
     pub ago: u64,

@@ -1,4 +1,5 @@
 // blame and before: the step that last changed a word of RAM is named, or the machine is stood just before it.
+#![tactic(auto)]
 mod culprit; // the step that changed a word
 
 use crate::culprit::{Step, in_frame, read_step, seen};

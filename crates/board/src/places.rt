@@ -13,7 +13,7 @@ pub const BOOTSTRAP: u32 = 0x1FC0_0000;
 pub const RAM: u32 = 0x2000_0000;
 
 // The bytes that are installed.
-#[derive(Drop)]
+#[derive(Clone, Copy)]
 pub struct Sizes {
     pub ram: u32,
     pub execution: u32,
@@ -21,7 +21,7 @@ pub struct Sizes {
 }
 
 // An area with the offset there.
-#[derive(Drop)]
+#[derive(Clone, Copy)]
 pub enum Place {
     Ram(u32),
     Execution(u32),
@@ -29,7 +29,7 @@ pub enum Place {
     Device(u32),
 }
 
-#[derive(Drop)]
+#[derive(Clone, Copy)]
 pub enum OnBus {
     In(Place),
     Nowhere,

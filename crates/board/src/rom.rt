@@ -6,7 +6,7 @@ ghost use Rattle.board.specs.declared.rom.RomAnswer.TheVariants.{Done};
 use crate::places::{BOOTSTRAP, EXECUTION, spans};
 
 // Numbers 0, 2 and 9 of document 01.
-#[derive(Drop)]
+#[derive(Clone, Copy)]
 pub enum RomAnswer {
     Done,
     BadRom,

@@ -8,7 +8,7 @@ use clock::Clock;
 use printer::Printer;
 
 // What the bus shows beside the printers' registers.
-#[derive(Drop)]
+#[derive(Clone, Copy)]
 pub struct Bus {
     pub sizes: Sizes,
     pub clock: Clock,

@@ -7,7 +7,7 @@ use crate::offset::{DEVICES, PRINTERS, field, line, number};
 use cp0::interrupt::with_line;
 use printer::cause::shown;
 
-#[derive(Drop)]
+#[derive(Clone, Copy)]
 pub enum Store {
     Nothing,
     Timer(u32),

@@ -1,8 +1,9 @@
 // The clock group: the 64-bit bus clock as two words, and the interval timer.
+#![tactic(auto)]
 ghost use Rattle.std.specs.Prelude.{◌≡◌, cond, ◌==◌};
 ghost use Rattle.clock.specs.Tick.{time_of, up, ticked_of};
 
-#[derive(Drop)]
+#[derive(Clone, Copy)]
 pub struct Clock {
     pub high: u32,
     pub low: u32,
@@ -10,7 +11,7 @@ pub struct Clock {
 }
 
 // The clock one step later, and whether the timer passed from 0 to 0xFFFFFFFF.
-#[derive(Drop)]
+#[derive(Clone, Copy)]
 pub struct Beat {
     pub clock: Clock,
     pub rang: bool,

@@ -1,7 +1,7 @@
 // The commands.
 use forms::kinds::{Fresh, Look, Span, Topic};
 
-#[derive(Drop)]
+#[derive(Clone, Copy)]
 pub enum Command {
     Nothing,
     New(Fresh),

@@ -10,7 +10,7 @@ use word::mask::overlaid;
 
 // What an exception brings: the coprocessor for code 11, the address for codes 1 to 5, `miss` where no entry of the table matched. The bool comes last, so
 // that no word of an enum that holds an exception shares its place with two parts.
-#[derive(Drop)]
+#[derive(Clone, Copy)]
 pub struct Exception {
     pub code: u32,
     pub coprocessor: u32,

@@ -4,7 +4,7 @@ ghost use Rattle.cp0.specs.Privilege.{mode_of, usable_of};
 
 use word::map::has_bit;
 
-#[derive(Drop)]
+#[derive(Clone, Copy)]
 pub struct Mode {
     pub user: bool,
     pub vm: bool,

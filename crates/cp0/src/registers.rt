@@ -6,7 +6,7 @@ ghost use Rattle.cp0.specs.Written.{mask_of, written_of};
 use isa::instr::ControlRegister;
 use word::mask::overlaid;
 
-#[derive(Drop)]
+#[derive(Clone, Copy)]
 pub struct Cp0 {
     pub index: u32,
     pub random: u32,

@@ -2,7 +2,7 @@
 ghost use Rattle.std.specs.Prelude.{◌≡◌, ◌<◌};
 ghost use Rattle.cp0.specs.Word.{modes_of, vm_of, with_stacks, pushed_of, popped_of};
 
-#[derive(Drop)]
+#[derive(Clone, Copy)]
 pub struct Status {
     pub word: u32,
 }

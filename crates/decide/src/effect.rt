@@ -3,7 +3,7 @@ use cp0::entry::Exception;
 use isa::instr::ControlRegister;
 use tlb::Row;
 
-#[derive(Drop)]
+#[derive(Clone, Copy)]
 pub enum Effect {
     Nothing,
     Register(u32, u32), // 1 to 31, its value
@@ -17,7 +17,7 @@ pub enum Effect {
     Raise(Exception),
 }
 
-#[derive(Drop)]
+#[derive(Clone, Copy)]
 pub struct Decision {
     pub pc: u32,
     pub next_pc: u32,

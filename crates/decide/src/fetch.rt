@@ -14,7 +14,7 @@ use reach::plain::plain;
 use state::machine::Core;
 use tlb::Row;
 
-#[derive(Drop)]
+#[derive(Clone, Copy)]
 pub enum Fetched {
     Word(u32),
     Refused(u32, bool), // code, miss

@@ -1,4 +1,5 @@
 // What the lines of devices share, whatever a device is: the pending map.
+#![tactic(auto)]
 ghost use Rattle.std.specs.Prelude.{cond, true, ◌≡◌, ◌<◌};
 ghost use Rattle.word.specs.Map.{with_bit};
 

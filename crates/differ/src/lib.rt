@@ -1,4 +1,5 @@
 // In what two stations differ: the words of the state, and how many bytes of RAM, paper and journal.
+#![tactic(auto)]
 ghost use Rattle.std.specs.Prelude.{◌≤◌};
 
 use phrase::template::{fill_row, four};
@@ -53,7 +54,7 @@ fn states(out: &mut [u8], at: usize, image: &[u8], other: &[u8]) -> usize {
 }
 
 // How many bytes differ, and the place of the first.
-#[derive(Drop)]
+#[derive(Clone, Copy)]
 struct Difference {
     count: u64,
     first: usize,
@@ -90,7 +91,7 @@ fn counting(here: &[u8], there: &[u8]) -> Difference {
 }
 
 // What is said of two buffers: the first, second or third of their rows in the table below, and its two values.
-#[derive(Drop)]
+#[derive(Clone, Copy)]
 struct Judged {
     row: u64,
     a: u64,

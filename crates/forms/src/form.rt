@@ -7,7 +7,7 @@ use piece::behind::counted;
 use piece::mark::{Mark, end, word};
 
 // The forms of the language, by what they ask for.
-#[derive(Drop)]
+#[derive(Clone, Copy)]
 pub enum Form {
     New,
     Load,
@@ -36,7 +36,7 @@ pub enum Form {
 }
 
 // A line read by one form: how far the form fits, and the number that it holds where it fits whole.
-#[derive(Drop)]
+#[derive(Clone, Copy)]
 pub struct Reading {
     pub mark: Mark,
     pub form: Form,

@@ -6,7 +6,7 @@ use crate::kinds::{Fresh, Span};
 use piece::behind::named;
 use piece::mark::{Count, Mark, Named, end, gap, number, word};
 
-#[derive(Drop)]
+#[derive(Clone, Copy)]
 pub struct Made {
     pub mark: Mark,
     pub fresh: Fresh,

@@ -1,13 +1,13 @@
 // What commands hold.
 
 // The bytes from .. to of the line.
-#[derive(Drop)]
+#[derive(Clone, Copy)]
 pub struct Span {
     pub from: usize,
     pub to: usize,
 }
 
-#[derive(Drop)]
+#[derive(Clone, Copy)]
 pub struct Fresh {
     pub ram: u64,
     pub paper: u64,
@@ -19,7 +19,7 @@ pub struct Fresh {
     pub bootstrap: Span,
 }
 
-#[derive(Drop)]
+#[derive(Clone, Copy)]
 pub enum Format {
     Hex,
     Signed,
@@ -27,14 +27,14 @@ pub enum Format {
     Character,
 }
 
-#[derive(Drop)]
+#[derive(Clone, Copy)]
 pub enum Unit {
     Byte,
     Half,
     Word,
 }
 
-#[derive(Drop)]
+#[derive(Clone, Copy)]
 pub struct Look {
     pub count: u64,
     pub format: Format,
@@ -43,7 +43,7 @@ pub struct Look {
     pub physical: bool,
 }
 
-#[derive(Drop)]
+#[derive(Clone, Copy)]
 pub enum Topic {
     All,
     New,

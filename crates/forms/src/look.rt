@@ -9,7 +9,7 @@ use piece::mark::{Count, Mark, fails, goes_on, word};
 use text::Number;
 
 // What stands behind the slash.
-#[derive(Drop)]
+#[derive(Clone, Copy)]
 struct Shape {
     count: u64,
     format: Format,
@@ -17,19 +17,19 @@ struct Shape {
     mark: Mark,
 }
 
-#[derive(Drop)]
+#[derive(Clone, Copy)]
 struct Faced {
     format: Format,
     mark: Mark,
 }
 
-#[derive(Drop)]
+#[derive(Clone, Copy)]
 struct Sized {
     unit: Unit,
     mark: Mark,
 }
 
-#[derive(Drop)]
+#[derive(Clone, Copy)]
 pub struct Seen {
     pub mark: Mark,
     pub look: Look,

@@ -1,5 +1,6 @@
 // How a run holds the eight printers: as their forty words, changed where they stand. A step that no printer has a part in copies them into its record, and
 // nowhere else.
+#![tactic(auto)]
 ghost use Rattle.core.specs.Prelude.{◌≡◌, ◌+◌, ◌<◌, ◌≤◌};
 ghost use Rattle.std.proofs.lemmas.List.Edits.{sets};
 ghost use Rattle.word.specs.Lists.{flat};
@@ -14,7 +15,7 @@ use printer::Printer;
 
 // What a run holds of the board beside the settings and the printers' words. `soon` tells in how many ticks a printer ends
 // at the earliest: 0 where none works, and 1 where that has not been looked at. Only where it is 1 is a printer looked at.
-#[derive(Drop)]
+#[derive(Clone, Copy)]
 pub struct Held {
     pub clock: Clock,
     pub pending: u32,

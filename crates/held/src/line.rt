@@ -165,7 +165,7 @@ pub fn data(words: &mut [u32; 40], installed: u32, n: usize, word: u32)
 }
 
 // Whether a printer prints in this step, and the byte that it overwrites.
-#[derive(Drop)]
+#[derive(Clone, Copy)]
 pub struct Kept {
     pub on: bool,
     pub byte: u8,

@@ -4,7 +4,7 @@ use crate::watched::{change, may_hold};
 use points::breaks;
 
 // So many steps are taken back. `watch` is the address of a watched byte plus 1: the next step back changes it. 0 for a breakpoint.
-#[derive(Drop)]
+#[derive(Clone, Copy)]
 pub struct Stop {
     pub steps: usize,
     pub watch: u64,

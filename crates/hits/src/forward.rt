@@ -5,7 +5,7 @@ use points::{breaks, watches};
 use stub::words::{MODE, RANGE, RANGE_FROM, RANGE_TO};
 
 // Before the k-th newest step; 0: there is none. `watch` is the address of a watched byte plus 1, 0 for any other stop.
-#[derive(Drop)]
+#[derive(Clone, Copy)]
 pub struct Stop {
     pub k: usize,
     pub watch: u64,

@@ -6,7 +6,7 @@ use reach::Reached;
 use reach::access::{Access, Kind, Width};
 
 // The value there, or the exception, or a word of the device area, which info clocks and info printers show; or two entries of the table match.
-#[derive(Drop)]
+#[derive(Clone, Copy)]
 pub enum Read {
     Value(u64),
     Raises(u64),

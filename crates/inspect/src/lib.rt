@@ -1,5 +1,6 @@
 // g, G, p, P, m, M, X: registers and memory. What the host writes is no step: see the crate host.
-use hex::{gather, number};
+#![tactic(auto)]
+use base16::{gather, number};
 use peek::look;
 use registers::numbers::{COUNT, is_read_only};
 use replies::plain::{done, refused, said};
@@ -19,7 +20,7 @@ pub fn show_register(reply: &mut [u8], packet: &[u8], image: &[u8]) -> usize {
 }
 
 // What came of a write of registers into the image.
-#[derive(Drop)]
+#[derive(Clone, Copy)]
 enum Outcome {
     Refused,
     Nothing,
@@ -46,7 +47,7 @@ fn wrote_all(packet: &[u8], image: &mut [u8], kept: &mut [u8]) -> Outcome {
 fn wrote_one(packet: &[u8], image: &mut [u8], kept: &mut [u8]) -> Outcome {
     let register = number(packet, 1);
     let n = (register.value % 256) as usize;
-    let value = hex::word(packet, register.to % 0x1_0000_0000 + 1);
+    let value = base16::word(packet, register.to % 0x1_0000_0000 + 1);
     if (byte(packet, register.to) != b'=') | (0xFFFF_FFFF < value) | is_read_only(n) {
         return Outcome::Refused;
     }

@@ -3,7 +3,7 @@ use isa::instr::{ControlRegister, LoadOp, StoreOp};
 use reach::Reached;
 use tlb::Row;
 
-#[derive(Drop)]
+#[derive(Clone, Copy)]
 pub enum Intent {
     Write(u32, u32), // register (0: none), its value
     Branch(u32, u32, u32), // the link's register (0: none), its value, the next PC

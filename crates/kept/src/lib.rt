@@ -1,4 +1,5 @@
 // What a piece of a run overwrites, beside RAM and paper, which taking back restores: the image, the index, and the slots of the journal from the next one on.
+#![tactic(auto)]
 ghost use Rattle.std.specs.Prelude.{◌≤◌, length};
 
 use journal::SLOT;
@@ -34,7 +35,7 @@ pub fn copy(from: &[u8], start: usize, to: &mut [u8], place: usize, count: usize
 }
 
 // How many bytes of the journal from the next slot on a piece overwrites before it goes round, and how many behind that.
-#[derive(Drop)]
+#[derive(Clone, Copy)]
 struct Overwritten {
     at: usize,
     first: usize,

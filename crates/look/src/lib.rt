@@ -1,5 +1,6 @@
 // Whether a run goes on, looked at before each step: the budget, and the matches that the next step meets (request L5). In a table that is not doubled no step meets two
 // (law meets-one), so that all but the budget is passed over: `limit` is the step before which there is something to look at.
+#![tactic(auto)]
 ghost use Rattle.core.specs.Prelude.{◌≡◌, ◌≤◌, if◌then◌else◌};
 ghost use Rattle.tlb.specs.Doubled.{doubled_in};
 ghost use Rattle.decide.specs.Lent.{lent_of, Whole};
@@ -17,14 +18,14 @@ use tlb::Row;
 use tlb::doubled::doubled;
 
 // Why a run ended.
-#[derive(Drop)]
+#[derive(Clone, Copy)]
 pub enum Stop {
     Budget,
     Exception,
     TwoMatches,
 }
 
-#[derive(Drop)]
+#[derive(Clone, Copy)]
 pub struct Look {
     pub ends: bool,
     pub why: Stop,

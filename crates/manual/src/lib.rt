@@ -1,4 +1,5 @@
 // help: what there is to say, and more about each word.
+#![tactic(auto)]
 use command::Topic;
 use text::put;
 

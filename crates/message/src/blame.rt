@@ -2,7 +2,7 @@
 use crate::{BEFORE, FOUND, Message, NO_CHANGE};
 
 // The step that changed the word at `address`.
-#[derive(Drop)]
+#[derive(Clone, Copy)]
 pub struct Culprit {
     pub address: u64,
     pub ago: u64,
@@ -14,7 +14,7 @@ pub struct Culprit {
 }
 
 // What is said of the frame that a word lies in: a row of the table in `say_frame`, the frame's first address, and the clock of its last change.
-#[derive(Drop)]
+#[derive(Clone, Copy)]
 pub struct Frame {
     pub row: u64,
     pub address: u64,

@@ -1,10 +1,11 @@
 // What is said of what was done or refused: a row of the three tables below, with values, and perhaps of a word's frame and of where the machine stands.
+#![tactic(auto)]
 pub mod blame; // who changed a word, and when its frame was changed
 
 use crate::blame::{Frame, no_frame};
 use phrase::template::{eight, fill_row, four};
 
-#[derive(Drop)]
+#[derive(Clone, Copy)]
 pub struct Message {
     pub row: u64,
     // 1: where the machine stands is said too.

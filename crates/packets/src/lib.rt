@@ -1,4 +1,5 @@
 // A packet, by its first byte, and the reply to it.
+#![tactic(auto)]
 use journal::SLOT;
 use replies::{inserts, plain, queries, stops};
 use stub::Next;

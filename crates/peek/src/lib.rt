@@ -1,8 +1,9 @@
 // What the host sees of the machine's memory by virtual addresses, through the translation table as it stands. The host is not held to
 // privilege nor to D: it reads what is there, and writes RAM.
+#![tactic(auto)]
 use board::places::{OnBus, Place, Sizes, mapped};
 use cp0::privilege::{Mode, mode_of};
-use hex::put_pair;
+use base16::put_pair;
 use reach::access::Kind;
 use reach::translate::{Translated, translate};
 use state::IMAGE;
@@ -10,7 +11,7 @@ use state::decode::decode;
 use tlb::Row;
 
 // The table and the ASID, and whether addresses below 0x80000000 go through it too. From there on all do: nothing physical is there.
-#[derive(Drop)]
+#[derive(Clone, Copy)]
 pub struct Eyes {
     pub low: bool,
     pub entry: u32,
@@ -18,7 +19,7 @@ pub struct Eyes {
 }
 
 // What the host sees at an address: a place in RAM or a ROM.
-#[derive(Drop)]
+#[derive(Clone, Copy)]
 pub enum Seen {
     Ram(usize),
     Execution(usize),

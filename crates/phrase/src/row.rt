@@ -2,7 +2,7 @@
 use text::put;
 
 // What is laid so far: up to `at`, with `left` rows still to pass. Behind the row asked for `left` wraps, so no other is laid.
-#[derive(Drop)]
+#[derive(Clone, Copy)]
 struct Row {
     at: usize,
     left: u64,

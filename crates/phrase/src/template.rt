@@ -3,7 +3,7 @@ use crate::value::value;
 use text::put;
 
 // What is laid so far: up to `at`, with `line` where the present line starts, `used` of the values, whether % came last, and how many rows are still to pass (as in row.rt).
-#[derive(Drop)]
+#[derive(Clone, Copy)]
 struct Laid {
     at: usize,
     line: usize,

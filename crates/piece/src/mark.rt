@@ -4,7 +4,7 @@ ghost use Rattle.piece.specs.Mark.{goes_on, fails_at, stands_of, behind_spaces, 
 
 use text::Number;
 
-#[derive(Drop)]
+#[derive(Clone, Copy)]
 pub struct Mark {
     // The place at which the next piece begins.
     pub at: usize,
@@ -14,13 +14,13 @@ pub struct Mark {
     pub reached: usize,
 }
 
-#[derive(Drop)]
+#[derive(Clone, Copy)]
 pub struct Count {
     pub value: u64,
     pub mark: Mark,
 }
 
-#[derive(Drop)]
+#[derive(Clone, Copy)]
 pub struct Named {
     pub from: usize,
     pub to: usize,

@@ -1,1 +1,2 @@
 // No code: where a line is refused (proofs/Refused.antt).
+#![tactic(auto)]

@@ -3,7 +3,7 @@
 use peek::{Eyes, in_ram};
 use stub::words::{FIRST_WATCH, MOST_WATCHES, WATCHED_FROM, WATCHED_TO, WATCHES};
 
-#[derive(Drop)]
+#[derive(Clone, Copy)]
 pub struct Watch {
     pub address: u64,
     pub length: u64,

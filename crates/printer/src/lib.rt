@@ -1,5 +1,6 @@
 // The eight printers of line 6: ticks, commands, and what a record keeps to take a tick back.
 // Paper is lent beside them: printer n's eighth starts at n * (length / 8).
+#![tactic(auto)]
 pub mod cause;
 pub mod command;
 pub mod rules;
@@ -16,7 +17,7 @@ pub const PRINT_ERROR: u32 = 4;
 // COMMAND.
 pub const PRINTCHR: u32 = 2;
 
-#[derive(Drop)]
+#[derive(Clone, Copy)]
 pub struct Printer {
     pub status: u32,
     pub command: u32,
@@ -28,7 +29,7 @@ pub struct Printer {
 }
 
 // What a tick and a command change, paper aside.
-#[derive(Drop)]
+#[derive(Clone, Copy)]
 pub struct Line {
     pub printers: [Printer; 8],
     pub pending: u32,

@@ -7,7 +7,7 @@ use crate::Printer;
 use crate::tick::prints;
 use word::map::has_bit;
 
-#[derive(Drop)]
+#[derive(Clone, Copy)]
 pub struct SavedPaper {
     // The printers that print.
     pub mask: u32,

@@ -14,7 +14,7 @@ use crate::{BUSY, PRINT_ERROR, PRINTCHR, Printer, READY};
 pub use device::pending_on;
 
 // The tick of one printer, its byte on paper aside.
-#[derive(Drop)]
+#[derive(Clone, Copy)]
 pub struct One {
     pub printer: Printer,
     pub finished: bool,

@@ -1,5 +1,6 @@
 // qRcmd: a line for the station that gdb passes on.
-use hex::{gather, spread};
+#![tactic(auto)]
+use base16::{gather, spread};
 use monitor::monitor;
 use replies::plain;
 use stub::Next;

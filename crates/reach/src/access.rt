@@ -2,7 +2,7 @@
 ghost use Rattle.std.specs.Prelude.{◌≡◌};
 ghost use Rattle.reach.specs.Access.{is_store, is_fetch, is_word};
 
-#[derive(Drop)]
+#[derive(Clone, Copy)]
 pub enum Kind {
     Fetch,
     Load,
@@ -10,7 +10,7 @@ pub enum Kind {
 }
 
 // Part is LWL, LWR, SWL, SWR: a part of the aligned word around the address.
-#[derive(Drop)]
+#[derive(Clone, Copy)]
 pub enum Width {
     One,
     Two,
@@ -18,7 +18,7 @@ pub enum Width {
     Part,
 }
 
-#[derive(Drop)]
+#[derive(Clone, Copy)]
 pub struct Access {
     pub kind: Kind,
     pub width: Width,

@@ -1,4 +1,5 @@
 // Document 01, "Addresses": where an access lands, or which exception it is.
+#![tactic(auto)]
 ghost use Rattle.std.specs.Prelude.{◌≡◌};
 ghost use Rattle.reach.specs.Reach.{bus_after, physical_of, meets_two};
 
@@ -16,7 +17,7 @@ pub mod plain; // an access that needs neither the table nor the map
 pub mod translate; // the physical address, by the table
 
 // The bool stands beside the tag and the code where a place's offset stands, so that neither overlaps a half of the other.
-#[derive(Drop)]
+#[derive(Clone, Copy)]
 pub enum Reached {
     Lands(Place),
     Exception { miss: bool, code: u32 },

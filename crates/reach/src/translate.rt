@@ -9,7 +9,7 @@ use cp0::privilege::Mode;
 use tlb::{First, Found, Row};
 use word::map::has_bit;
 
-#[derive(Drop)]
+#[derive(Clone, Copy)]
 pub enum Translated {
     To(u32),
     Raises { miss: bool, code: u32 },

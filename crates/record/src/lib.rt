@@ -1,4 +1,5 @@
 // The record of a step: what the step overwrites, as a value and as the 512 bytes of a journal's slot (docs/RECORD.md).
+#![tactic(auto)]
 pub mod decode; // from bytes to a record
 pub mod encode; // from a record to bytes
 pub mod keeps; // whether bytes keep the layout
@@ -21,7 +22,7 @@ pub const OLD: usize = 61;
 pub const RAM: u32 = 3;
 
 // What the step's effect overwrites beside the small words.
-#[derive(Drop)]
+#[derive(Clone, Copy)]
 pub enum Saved {
     Nothing,
     // its number and old value
@@ -33,7 +34,7 @@ pub enum Saved {
 }
 
 // All as it was before the step. The clock needs no room, since it goes down by one; on hand and next slot never come from a record.
-#[derive(Drop)]
+#[derive(Clone, Copy)]
 pub struct Record {
     pub core: Core,
     pub timer: u32,

@@ -1,6 +1,6 @@
 // g, p: registers as digits.
 use crate::numbers::{COUNT, word_of};
-use hex::put_word;
+use base16::put_word;
 
 // One register.
 pub fn one(out: &mut [u8], at: usize, image: &[u8], n: usize) -> usize {

@@ -44,7 +44,7 @@ fn from_packet(image: &mut [u8], packet: &[u8], n: usize) -> bool {
     if is_read_only(n) {
         return false;
     }
-    one(image, n, hex::word(packet, n % COUNT * 8 + 1))
+    one(image, n, base16::word(packet, n % COUNT * 8 + 1))
 }
 
 // Behind `G`: all but those that are only read. Answers whether something changed.

@@ -4,7 +4,7 @@ ghost use Rattle.remote.specs.Payload.{added_of, plain_of, run_of, step_of, read
 ghost use Rattle.remote.specs.Course.{laid_in, reading_of, Reads};
 
 // How many bytes of payload are laid, and how the next byte is read.
-#[derive(Drop)]
+#[derive(Clone, Copy)]
 pub enum Course {
     Plain(usize),
     // Behind a `}`.

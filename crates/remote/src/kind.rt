@@ -1,5 +1,5 @@
 // What stands at the start of the bytes that gdb sent.
-#[derive(Drop)]
+#[derive(Clone, Copy)]
 pub enum Heard {
     // Nothing whole yet: more bytes are needed.
     More,

@@ -7,7 +7,7 @@ ghost use Rattle.remote.specs.Said.{is_coded, coded_of, Says, Bodied};
 use crate::sum::added;
 
 // The place behind the bytes that are laid, and their checksum.
-#[derive(Drop)]
+#[derive(Clone, Copy)]
 struct Body {
     next: usize,
     sum: u64,

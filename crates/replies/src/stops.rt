@@ -1,5 +1,5 @@
 // The reply when the machine has stopped: the signal, the registers that gdb asks for at every stop, and why.
-use hex::{put_address, put_pair, put_word};
+use base16::{put_address, put_pair, put_word};
 use registers::numbers::{PC, RA, S8, SP, word_of};
 use stub::words::{SIGNAL, TRAP};
 use text::put;

@@ -1,5 +1,6 @@
 // The run loop. It holds the machine's parts as locals, so that no step copies them all: the registers, and as words the core and the printers, are lent to each step
 // and changed where they stand; the translation table is passed by value to what asks it, and handed back whole where a row is written.
+#![tactic(auto)]
 ghost use Rattle.core.specs.Prelude.{◌≡◌};
 ghost use Rattle.turn.specs.Buffers.{beside_of};
 ghost use Rattle.run.specs.Run.{Fits, RunIs};
@@ -17,14 +18,14 @@ use step::saved::old_row;
 use tlb::Row;
 use turn::{Parts, finish, start};
 
-#[derive(Drop)]
+#[derive(Clone, Copy)]
 pub struct Outcome {
     pub machine: Machine,
     pub steps: u32,
     pub why: Stop,
 }
 
-#[derive(Drop)]
+#[derive(Clone, Copy)]
 pub struct Spun {
     pub parts: Parts,
     pub steps: u32,

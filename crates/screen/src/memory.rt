@@ -28,7 +28,7 @@ pub const DEVICE: u64 = 7;
 pub const TWO_MATCH: u64 = 8;
 
 // `begins` and `shows` are of the rows above; the line ends behind the unit if `ends` is 1.
-#[derive(Drop)]
+#[derive(Clone, Copy)]
 pub struct Unit {
     pub begins: u64,
     pub address: u64,

@@ -3,7 +3,7 @@ use journal::SLOT;
 use phrase::template::{eight, fill_row};
 
 // In bytes.
-#[derive(Drop)]
+#[derive(Clone, Copy)]
 pub struct Lengths {
     pub execution: usize,
     pub bootstrap: usize,

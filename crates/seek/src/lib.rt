@@ -1,4 +1,5 @@
 // Questions about the steps on hand, answered from their records: the newest step that changed a word of RAM, and the newest and the oldest at a PC.
+#![tactic(auto)]
 ghost use Rattle.std.specs.Prelude.{◌≡◌, map, length};
 ghost use Rattle.seek.specs.OnHand.{fits_in, Fits, kth_of, held_of};
 ghost use Rattle.seek.specs.Latest.{word_before, scan};
@@ -11,14 +12,14 @@ use record::decode::word;
 use record::{KIND, OLD, PC, PLACE, RAM};
 
 // The k-th newest step on hand, 1 being the newest, with the word before and after it.
-#[derive(Drop)]
+#[derive(Clone, Copy)]
 pub enum Sought {
     At(u32, u32, u32),
     Nothing,
 }
 
 // The k-th newest step on hand.
-#[derive(Drop)]
+#[derive(Clone, Copy)]
 pub enum Place {
     At(u32),
     Nothing,

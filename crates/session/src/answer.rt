@@ -40,7 +40,7 @@ const PROMPT: u64 = 1;
 const STOPPED: u64 = 2;
 
 // How a turn ends.
-#[derive(Drop)]
+#[derive(Clone, Copy)]
 pub enum Then {
     // The next line is wanted.
     Ask,
@@ -57,7 +57,7 @@ pub enum Then {
 }
 
 // All that a turn answers but for the bytes, and what is laid last.
-#[derive(Drop)]
+#[derive(Clone, Copy)]
 struct Closing {
     wants: u64,
     status: u64,

@@ -3,7 +3,7 @@ use crate::answer::Then;
 use crate::turn::{Turn, quietly};
 use crate::work::Work;
 
-#[derive(Drop)]
+#[derive(Clone, Copy)]
 pub struct Plan {
     pub work: Work,
     pub turn: Turn,

@@ -3,7 +3,7 @@ use crate::answer::Then;
 use forms::kinds::{Look, Topic};
 use message::{Message, with};
 
-#[derive(Drop)]
+#[derive(Clone, Copy)]
 pub enum View {
     Said(Message),
     // By its number: registers, tlb or printers.
@@ -19,7 +19,7 @@ pub enum View {
     Bad(usize),
 }
 
-#[derive(Drop)]
+#[derive(Clone, Copy)]
 pub struct Turn {
     pub view: View,
     pub then: Then,

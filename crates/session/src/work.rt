@@ -3,21 +3,21 @@ use forms::kinds::Fresh;
 use message::blame::{Culprit, Frame};
 
 // Whose last change is looked for, and whether the machine is to stay before that step.
-#[derive(Drop)]
+#[derive(Clone, Copy)]
 pub struct Asked {
     pub address: u64,
     pub stay: bool,
 }
 
 // The three parameters of a reset.
-#[derive(Drop)]
+#[derive(Clone, Copy)]
 pub struct Settings {
     pub scale: u64,
     pub delay: u64,
     pub installed: u64,
 }
 
-#[derive(Drop)]
+#[derive(Clone, Copy)]
 pub enum Work {
     Nothing,
     // Whether a station can be made like this.
@@ -31,7 +31,7 @@ pub enum Work {
     Blame(Asked),
 }
 
-#[derive(Drop)]
+#[derive(Clone, Copy)]
 pub enum Worked {
     Nothing,
     Accepted(Fresh),

@@ -4,14 +4,14 @@ use cp0::registers::Cp0;
 use printer::Line;
 use tlb::Row;
 
-#[derive(Drop)]
+#[derive(Clone, Copy)]
 pub struct Machine {
     pub cpu: Cpu,
     pub board: Board,
     pub journal: Journal,
 }
 
-#[derive(Drop)]
+#[derive(Clone, Copy)]
 pub struct Cpu {
     // Register 0 is always 0.
     pub regs: [u32; 32],
@@ -19,7 +19,7 @@ pub struct Cpu {
     pub tlb: [Row; 16],
 }
 
-#[derive(Drop)]
+#[derive(Clone, Copy)]
 pub struct Core {
     pub hi: u32,
     pub lo: u32,
@@ -31,7 +31,7 @@ pub struct Core {
     pub branch: u32,
 }
 
-#[derive(Drop)]
+#[derive(Clone, Copy)]
 pub struct Board {
     pub clock: Clock,
     pub settings: Settings,
@@ -39,14 +39,14 @@ pub struct Board {
 }
 
 // The three parameters of reset.
-#[derive(Drop)]
+#[derive(Clone, Copy)]
 pub struct Settings {
     pub scale: u32,
     pub delay: u32,
     pub installed: u32,
 }
 
-#[derive(Drop)]
+#[derive(Clone, Copy)]
 pub struct Journal {
     pub on_hand: u32,
     pub next_slot: u32,

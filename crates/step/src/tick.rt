@@ -55,7 +55,7 @@ pub fn core_ticked(rang: bool, pending: u32, c: Core) -> Core
     }
 }
 
-#[derive(Drop)]
+#[derive(Clone, Copy)]
 pub struct AfterPrinters {
     pub pending: u32,
     pub soon: u32,

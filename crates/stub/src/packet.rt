@@ -1,5 +1,5 @@
 // What a packet begins with, and the numbers in it.
-use hex::number;
+use base16::number;
 
 fn is(packet: &[u8], at: usize, byte: u8) -> bool {
     if packet.len() <= at {
@@ -27,7 +27,7 @@ pub fn byte(packet: &[u8], at: usize) -> u8 {
 }
 
 // Both numbers with a sign between them, as ADDRESS,LENGTH, and the place behind them; 0 where they do not stand there.
-#[derive(Drop)]
+#[derive(Clone, Copy)]
 pub struct Both {
     pub first: u64,
     pub second: u64,

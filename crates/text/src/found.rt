@@ -1,5 +1,5 @@
 // What stands at a place of a line where a number is looked for.
-#[derive(Drop)]
+#[derive(Clone, Copy)]
 pub enum Number {
     // The value, and the place behind its last digit.
     Value(u64, usize),

@@ -8,7 +8,7 @@ use crate::found::Number;
 const LARGEST: u64 = 0xFFFF_FFFF_FFFF_FFFF;
 
 // What digits write, where 64 bits hold it.
-#[derive(Drop)]
+#[derive(Clone, Copy)]
 enum Total {
     Is(u64),
     TooLarge,

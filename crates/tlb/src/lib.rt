@@ -1,4 +1,5 @@
 // The translation table: sixteen rows of two words, passed and handed back whole.
+#![tactic(auto)]
 ghost use Rattle.std.specs.Prelude.{◌≡◌, cond};
 ghost use Rattle.tlb.specs.Entry.{matches_of, read_at, written_at};
 ghost use Rattle.tlb.specs.Search.{is_at, found_in, lowest_of};
@@ -6,19 +7,19 @@ ghost use Rattle.tlb.specs.Index.{index_of, probed_of, probed_at};
 
 pub mod doubled; // whether an address can meet two matches at all
 
-#[derive(Drop)]
+#[derive(Clone, Copy)]
 pub struct Row {
     pub high: u32,
     pub low: u32,
 }
 
-#[derive(Drop)]
+#[derive(Clone, Copy)]
 pub enum Found {
     At(usize, bool), // the entry's number, and whether a second one matches
     Nothing,
 }
 
-#[derive(Drop)]
+#[derive(Clone, Copy)]
 pub enum First {
     At(usize),
     Nothing,

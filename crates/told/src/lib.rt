@@ -1,1 +1,2 @@
 // No code: what the crate `seek` answers, said of the states before and after the steps (proofs/).
+#![tactic(auto)]

@@ -1,6 +1,7 @@
 // One step with its record, on the parts that a run holds: what comes before the decision, and what comes after it. The record is begun before the tick with all that
 // it keeps of the state, and ended with what the step overwrites once that is decided: so no old value is kept aside while the step works. The decision itself, which
 // takes the table by value, is the loop's to ask for: a function that took the table in and on would copy it in every step (docs/SPEED.md).
+#![tactic(auto)]
 ghost use Rattle.std.specs.Prelude.{◌≡◌, length};
 ghost use Rattle.printer.specs.Saved.{saved_paper_of};
 ghost use Rattle.held.specs.Board.{printers_in, Told};
@@ -27,7 +28,7 @@ use step::tick::ticked;
 use tlb::Row;
 
 // The parts that a run holds.
-#[derive(Drop)]
+#[derive(Clone, Copy)]
 pub struct Parts {
     pub core: [u32; 14],
     pub held: Held,
@@ -37,7 +38,7 @@ pub struct Parts {
     pub mark: Journal,
 }
 
-#[derive(Drop)]
+#[derive(Clone, Copy)]
 pub struct Turned {
     pub held: Held,
     pub mark: Journal,

@@ -12,7 +12,7 @@ use state::machine::Machine;
 use word::map::has_bit;
 
 // The machine before the step beside the answer: the check goes on with it.
-#[derive(Drop)]
+#[derive(Clone, Copy)]
 pub struct Verdict {
     pub fits: bool,
     pub machine: Machine,

@@ -6,7 +6,7 @@ use inquiry::reading::{Read, physical_unit, virtual_unit};
 const MOST: u64 = 4096;
 
 // How far a look has come: what is laid up to `at`, the next address, its place on the line, and whether it goes on.
-#[derive(Drop)]
+#[derive(Clone, Copy)]
 struct Looked {
     at: usize,
     address: u32,

@@ -1,4 +1,5 @@
 // What a technician looks at.
+#![tactic(auto)]
 mod paper; // paper
 mod examine; // x, xp
 

@@ -1,7 +1,7 @@
 -- Safe and ending: half of the packet at most, in a buffer that keeps its length.
 use Rattle.std.proofs.Common.{◌≡◌, ◌-◌, ◌≤◌, length, rules}
-use Rattle.hex.proofs.gather.Statement.{statement}
-use Rattle.hex.proofs.gather.Tie as tie
+use Rattle.base16.proofs.gather.Statement.{statement}
+use Rattle.base16.proofs.gather.Tie as tie
 
 abbrev invariant-loop : tie.invariant-loop
 invariant-loop packet₀ from most i₀ packet i = (i ≤ most) × (length packet ≡ length packet₀)

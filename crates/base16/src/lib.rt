@@ -1,8 +1,9 @@
 // Numbers and bytes as gdb's packets write them: in base 16, with no mark before them.
+#![tactic(auto)]
 use text::{digit, put_digit, smaller};
 
 // What was read: the value modulo 2^64, and the place behind the last digit. That is where it was looked for if there is no digit.
-#[derive(Drop)]
+#[derive(Clone, Copy)]
 pub struct Digits {
     pub value: u64,
     pub to: usize,

@@ -1,7 +1,7 @@
 -- Safe and ending: each digit is one nearer to the end of the packet.
 use Rattle.std.proofs.Common.{◌-◌, ◌≤◌, length, rules}
-use Rattle.hex.proofs.number.Statement.{statement}
-use Rattle.hex.proofs.number.Tie as tie
+use Rattle.base16.proofs.number.Statement.{statement}
+use Rattle.base16.proofs.number.Tie as tie
 
 abbrev invariant-loop : tie.invariant-loop
 invariant-loop packet from value₀ at₀ value at = 0 ≤ value

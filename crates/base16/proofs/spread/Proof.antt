@@ -1,7 +1,7 @@
 -- Safe and ending: each byte once, in a buffer that keeps its length.
 use Rattle.std.proofs.Common.{◌≡◌, ◌-◌, ◌≤◌, length, rules}
-use Rattle.hex.proofs.spread.Statement.{statement}
-use Rattle.hex.proofs.spread.Tie as tie
+use Rattle.base16.proofs.spread.Statement.{statement}
+use Rattle.base16.proofs.spread.Tie as tie
 
 abbrev invariant-loop : tie.invariant-loop
 invariant-loop text₀ count count' k₀ text k = (k ≤ count') × (length text ≡ length text₀)
