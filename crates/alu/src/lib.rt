@@ -1,5 +1,6 @@
 // What the integer instructions of MIPS I compute, on words. What a signed instruction means is said in ℤ, in specs/.
 #![tactic(auto)]
+
 pub mod sum; // ADD, SUB and their overflow, ADDU, SUBU; SLT, SLTU; with immediates too
 pub mod logic; // AND, OR, XOR, NOR; ANDI, ORI, XORI; LUI
 pub mod shift; // SLL, SRL, SRA, also by a register

@@ -1,5 +1,6 @@
 // What a call answers: done with steps and a stop reason, or one of document 01's refusals.
 #![tactic(auto)]
+
 ghost use Rattle.std.specs.Prelude.{◌≡◌, ◌<◌};
 ghost use Rattle.answer.specs.Answer.{reason_number, refusal_number, number_of, packed_of};
 

@@ -1,6 +1,7 @@
 // Taking back steps: one pass over the newest records that checks and writes nothing, one that undoes. A call that can be refused for other reasons asks the
 // first before it lets the second write.
 #![tactic(auto)]
+
 ghost use Rattle.std.specs.Prelude.{◌≡◌, ◌≤◌, length};
 ghost use Rattle.ring.specs.Back.{done};
 ghost use Rattle.journal.specs.Journal.{Ready};

@@ -1,5 +1,6 @@
 // Take-back: some of the newest steps undone from their records in the journal.
 #![tactic(auto)]
+
 ghost use Rattle.std.specs.Prelude.{◌≡◌, length};
 ghost use Rattle.ring.specs.Back.{done};
 ghost use Rattle.back.specs.Back.{Fits, asked_of};

@@ -1,5 +1,6 @@
 // Numbers and bytes as gdb's packets write them: in base 16, with no mark before them.
 #![tactic(auto)]
+
 use text::{digit, put_digit, smaller};
 
 // What was read: the value modulo 2^64, and the place behind the last digit. That is where it was looked for if there is no digit.

@@ -1,5 +1,6 @@
 // blame and before: the step that last changed a word of RAM is named, or the machine is stood just before it.
 #![tactic(auto)]
+
 mod culprit; // the step that changed a word
 
 use crate::culprit::{Step, in_frame, read_step, seen};

@@ -1,5 +1,6 @@
 // The clock group: the 64-bit bus clock as two words, and the interval timer.
 #![tactic(auto)]
+
 ghost use Rattle.std.specs.Prelude.{◌≡◌, cond, ◌==◌};
 ghost use Rattle.clock.specs.Tick.{time_of, up, ticked_of};
 

@@ -1,5 +1,6 @@
 // Requests L2 and L4: an image of the version before becomes one of this version.
 #![tactic(auto)]
+
 ghost use Rattle.std.specs.Prelude.{◌≡◌, ◌++◌, length, replicate};
 ghost use Rattle.convert.specs.Convert.{journal_before, header_before, machine_before, keeps_before, emptied, ConvertIs, PackedConvertIs};
 

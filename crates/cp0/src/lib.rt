@@ -1,5 +1,6 @@
 // Coprocessor 0: its registers and what reads, writes and moves them. The translation table is not here.
 #![tactic(auto)]
+
 pub mod entry; // exception entry, and its vector
 pub mod interrupt; // IP and IM: whether a step is interrupt entry, and a line turned on or off
 pub mod privilege; // KUc, VMc and CU[0]

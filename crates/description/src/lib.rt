@@ -1,5 +1,6 @@
 // The target description. gdb wants the features cpu, cp0 and fpu, and the osabi none: without it, it would not ask for single steps.
 #![tactic(auto)]
+
 use phrase::template::{fill_row, four};
 use text::put;
 

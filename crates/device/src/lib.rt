@@ -1,5 +1,6 @@
 // What the lines of devices share, whatever a device is: the pending map.
 #![tactic(auto)]
+
 ghost use Rattle.std.specs.Prelude.{cond, true, ◌≡◌, ◌<◌};
 ghost use Rattle.word.specs.Map.{with_bit};
 

@@ -1,5 +1,6 @@
 // In what two stations differ: the words of the state, and how many bytes of RAM, paper and journal.
 #![tactic(auto)]
+
 ghost use Rattle.std.specs.Prelude.{◌≤◌};
 
 use phrase::template::{fill_row, four};

@@ -1,5 +1,6 @@
 // The eight disks of line 3: their tick in number order, writes to them, the rules of the line, and taking a tick back. RAM and each disk's bytes are lent beside them.
 #![tactic(auto)]
+
 pub mod cause;
 pub mod command;
 pub mod rules;

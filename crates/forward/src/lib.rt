@@ -1,5 +1,6 @@
 // Run: some steps of the machine of an image, with the records of the newest in the journal.
 #![tactic(auto)]
+
 ghost use Rattle.std.specs.Prelude.{◌≡◌, length};
 ghost use Rattle.run.specs.Run.{Fits};
 ghost use Rattle.state.specs.Layout.{machine_of};

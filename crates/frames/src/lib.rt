@@ -1,5 +1,6 @@
 // For each frame of RAM the last step on hand that changed it: the index of 02, L6, in lent bytes. The theory is in specs/ and proofs/.
 #![tactic(auto)]
+
 ghost use Rattle.std.specs.Prelude.{◌≡◌, ◌+◌, ◌*◌, ◌%◌, ◌≤◌, length};
 ghost use Rattle.frames.specs.Keep.{up_to, distance, restored, is_at};
 ghost use Rattle.frames.specs.Bytes.{whole, entry_words, entry_at, put_entry, replace_in, note_in};

@@ -1,5 +1,6 @@
 // gdb's remote protocol. A turn of a session hears at most one packet, the machine does what that asks for or runs one piece, and gdb is told what came of it.
 #![tactic(auto)]
+
 pub mod hear; // what a turn has to do
 pub mod tell; // what gdb is told of it
 

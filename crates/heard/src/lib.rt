@@ -1,5 +1,6 @@
 // Not for the panel: what tests ask of the crate `command`. A command is eleven numbers: its kind, what it holds, and zeros.
 #![tactic(auto)]
+
 ghost use Rattle.std.specs.Prelude.{◌≡◌};
 ghost use Rattle.command.specs.Line.{command_of};
 ghost use Rattle.heard.specs.Numbers.{command_numbers, fresh_numbers, look_numbers, format_number, unit_number, topic_number, physical_number};

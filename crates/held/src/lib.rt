@@ -1,6 +1,7 @@
 // How a run holds the eight printers: as their forty words, changed where they stand. A step that no printer has a part in copies them into its record, and
 // nowhere else.
 #![tactic(auto)]
+
 ghost use Rattle.core.specs.Prelude.{◌≡◌, ◌+◌, ◌<◌, ◌≤◌};
 ghost use Rattle.std.proofs.lemmas.List.Edits.{sets};
 ghost use Rattle.word.specs.Lists.{flat};

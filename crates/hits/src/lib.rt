@@ -1,5 +1,6 @@
 // The records of the newest steps, looked at for a stop: a breakpoint, a PC outside of the range of a range step, or a store that changes a watched byte.
 #![tactic(auto)]
+
 pub mod says; // what the record of a step says
 pub mod watched; // whether a record is a store that changes a watched byte
 pub mod forward; // the first stop among some steps that were run

@@ -1,5 +1,6 @@
 // What the host writes is no step: it can not be taken back, and the records of the steps before it do not fit any more.
 #![tactic(auto)]
+
 use answer::Answer;
 use kept::{keep_image, put_back_image};
 use reset::empty;

@@ -1,5 +1,6 @@
 // The state image's words at their places (document 01, "The state image"). An image of another length holds 0 everywhere.
 #![tactic(auto)]
+
 pub const WORDS: usize = 184;
 
 // The length word, the version, and the words.

@@ -1,5 +1,6 @@
 // g, G, p, P, m, M, X: registers and memory. What the host writes is no step: see the crate host.
 #![tactic(auto)]
+
 use base16::{gather, number};
 use peek::look;
 use registers::numbers::{COUNT, is_read_only};

@@ -1,5 +1,6 @@
 // What an instruction asks for: sources are read first, so every answer is made of what they held before it.
 #![tactic(auto)]
+
 ghost use Rattle.std.specs.Prelude.{◌≡◌};
 ghost use Rattle.pages.specs.Pages.{Known};
 ghost use Rattle.state.specs.Layout.{HoldsZero};

@@ -1,5 +1,6 @@
 // The journal over the bytes that the host lends: a step's record at the next slot, which goes round.
 #![tactic(auto)]
+
 ghost use Rattle.std.specs.Prelude.{◌≡◌, ◌*◌, ◌/◌, ◌<◌, length};
 ghost use Rattle.ring.specs.Slots.{slot, put};
 ghost use Rattle.record.specs.Layout.{begun_in};

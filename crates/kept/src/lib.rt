@@ -1,5 +1,6 @@
 // What a piece of a run overwrites, beside RAM and paper, which taking back restores: the image, the index, and the slots of the journal from the next one on.
 #![tactic(auto)]
+
 ghost use Rattle.std.specs.Prelude.{◌≤◌, length};
 
 use journal::SLOT;

@@ -1,5 +1,6 @@
 // The question of document 02, L6: the latest step on hand that altered a word of RAM, and from what to what.
 #![tactic(auto)]
+
 ghost use Rattle.std.specs.Prelude.{◌≡◌, ◌+◌, ◌^◌, ◌<◌, ◌≤◌, length};
 ghost use Rattle.board.specs.Places.{ram_base};
 ghost use Rattle.turn.specs.Buffers.{beside_back, buffers_back};

@@ -1,5 +1,6 @@
 // One line: what it asks for, of a session with a station or without.
 #![tactic(auto)]
+
 use actions::{load, make, paper, running, save};
 use command::{Command, command};
 use forms::kinds::Look;

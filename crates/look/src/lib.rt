@@ -1,6 +1,7 @@
 // Whether a run goes on, looked at before each step: the budget, and the matches that the next step meets (request L5). In a table that is not doubled no step meets two
 // (law meets-one), so that all but the budget is passed over: `limit` is the step before which there is something to look at.
 #![tactic(auto)]
+
 ghost use Rattle.core.specs.Prelude.{◌≡◌, ◌≤◌, if◌then◌else◌};
 ghost use Rattle.tlb.specs.Doubled.{doubled_in};
 ghost use Rattle.decide.specs.Lent.{lent_of, Whole};

@@ -1,5 +1,6 @@
 // help: what there is to say, and more about each word.
 #![tactic(auto)]
+
 use command::Topic;
 use text::put;
 

@@ -1,5 +1,6 @@
 // Request L5: whether the fetch, load or store of a step meets two matches. Apart from `decide`, which each step goes through: this is asked only where the table is doubled.
 #![tactic(auto)]
+
 ghost use Rattle.std.specs.Prelude.{◌≡◌};
 ghost use Rattle.isa.specs.Opcode.{decode_of};
 ghost use Rattle.intend.specs.Access.{twice_of};

@@ -1,5 +1,6 @@
 // Little-endian bytes, halves and words of a lent slice. Each width is made of two of the half of it.
 #![tactic(auto)]
+
 pub mod words; // a list of words
 
 ghost use Rattle.std.specs.Prelude.{◌≡◌, ◌+◌, ◌≤◌, length};

@@ -1,5 +1,6 @@
 // What is said of what was done or refused: a row of the three tables below, with values, and perhaps of a word's frame and of where the machine stands.
 #![tactic(auto)]
+
 pub mod blame; // who changed a word, and when its frame was changed
 
 use crate::blame::{Frame, no_frame};

@@ -1,5 +1,6 @@
 // monitor: lines of the station's own language that gdb passes on. Those that look, blame, before, and reset; all else gdb does itself.
 #![tactic(auto)]
+
 use command::{Command, command};
 use dispatch::after::after;
 use line::line;

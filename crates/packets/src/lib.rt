@@ -1,5 +1,6 @@
 // A packet, by its first byte, and the reply to it.
 #![tactic(auto)]
+
 use journal::SLOT;
 use replies::{inserts, plain, queries, stops};
 use stub::Next;

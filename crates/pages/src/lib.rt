@@ -1,6 +1,7 @@
 // Document 02, L9: the last page translated, one for fetches and one for data, remembered inside one run. It stands in no image, so that reset and take-back cannot leave an
 // old one behind. Its key holds page, ASID and mode, so that a change of any of them cannot meet it; only a write to the table makes it untrue.
 #![tactic(auto)]
+
 ghost use Rattle.std.specs.Prelude.{◌≡◌, ◌+◌, ◌%◌, ◌<◌, ◌≤◌, length, get_or};
 ghost use Rattle.pages.specs.Pages.{key_of, in_ram, single_in, is_open, page_of, is_near, Known, Inside};
 

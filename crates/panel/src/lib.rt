@@ -1,5 +1,6 @@
 // One turn of a session: it is planned, the machine works, the session goes on, and a person is shown what came of it.
 #![tactic(auto)]
+
 use dispatch::after::after;
 use dispatch::plan::planned;
 use screen::sizes::Lengths;

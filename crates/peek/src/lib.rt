@@ -1,9 +1,10 @@
 // What the host sees of the machine's memory by virtual addresses, through the translation table as it stands. The host is not held to
 // privilege nor to D: it reads what is there, and writes RAM.
 #![tactic(auto)]
+
+use base16::put_pair;
 use board::places::{OnBus, Place, Sizes, mapped};
 use cp0::privilege::{Mode, mode_of};
-use base16::put_pair;
 use reach::access::Kind;
 use reach::translate::{Translated, translate};
 use state::IMAGE;

@@ -1,6 +1,7 @@
 // The eight printers of line 6: ticks, commands, and what a record keeps to take a tick back.
 // Paper is lent beside them: printer n's eighth starts at n * (length / 8).
 #![tactic(auto)]
+
 pub mod cause;
 pub mod command;
 pub mod rules;

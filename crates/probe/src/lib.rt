@@ -1,5 +1,6 @@
 // Not for the panel: what tests ask of the archive beside another emulator.
 #![tactic(auto)]
+
 ghost use Rattle.std.specs.Prelude.{◌≡◌, length};
 ghost use Rattle.board.specs.Rom.{window_of};
 ghost use Rattle.rules.specs.Rules.{good_image};

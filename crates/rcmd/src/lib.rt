@@ -1,5 +1,6 @@
 // qRcmd: a line for the station that gdb passes on.
 #![tactic(auto)]
+
 use base16::{gather, spread};
 use monitor::monitor;
 use replies::plain;

@@ -1,5 +1,6 @@
 // Document 01, "Addresses": where an access lands, or which exception it is.
 #![tactic(auto)]
+
 ghost use Rattle.std.specs.Prelude.{◌≡◌};
 ghost use Rattle.reach.specs.Reach.{bus_after, physical_of, meets_two};
 

@@ -1,5 +1,6 @@
 // The record of a step: what the step overwrites, as a value and as the 512 bytes of a journal's slot (docs/RECORD.md).
 #![tactic(auto)]
+
 pub mod decode; // from bytes to a record
 pub mod encode; // from a record to bytes
 pub mod keeps; // whether bytes keep the layout

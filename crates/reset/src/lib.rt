@@ -1,5 +1,6 @@
 // Reset: the lent image becomes that of a machine that was just switched on.
 #![tactic(auto)]
+
 ghost use Rattle.std.specs.Prelude.{◌≡◌, ℕ, length, replicate};
 ghost use Rattle.word.specs.Lists.{tabulate};
 ghost use Rattle.word.specs.Map.{bit};

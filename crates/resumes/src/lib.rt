@@ -1,5 +1,6 @@
 // c, s, vCont, bc, bs: the machine is to run, and the reply comes when it stops.
 #![tactic(auto)]
+
 use peek::look;
 use points::watches::place_all;
 use resume::reverse;

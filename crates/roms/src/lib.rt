@@ -1,5 +1,6 @@
 // The two ROM calls: what is answered for a physical address, and the four bytes there.
 #![tactic(auto)]
+
 ghost use Rattle.std.specs.Prelude.{◌≡◌};
 ghost use Rattle.board.specs.Rom.{window_of};
 ghost use Rattle.roms.specs.Rom.{told, rom_answer};

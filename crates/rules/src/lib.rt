@@ -1,5 +1,6 @@
 // Whether an image keeps the rules of document 01. Each test is one line of `&` and `|` on bools, so its term is the definition's.
 #![tactic(auto)]
+
 ghost use Rattle.std.specs.Prelude.{◌≡◌, length};
 ghost use Rattle.state.specs.Layout.{machine_of};
 ghost use Rattle.rules.specs.Rules.{header_keeps, disks_keep, bytes_keep, cause_keeps, random_keeps, entry_keeps, cp0_keeps, tlb_keeps, ranges_keep, journal_keeps, slot_keeps, state_keeps, machine_keeps, keeps_rules};

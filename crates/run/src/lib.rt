@@ -1,6 +1,7 @@
 // The run loop. It holds the machine's parts as locals, so that no step copies them all: the registers, and as words the core and the printers, are lent to each step
 // and changed where they stand; the translation table is passed by value to what asks it, and handed back whole where a row is written.
 #![tactic(auto)]
+
 ghost use Rattle.core.specs.Prelude.{◌≡◌};
 ghost use Rattle.turn.specs.Buffers.{beside_of};
 ghost use Rattle.run.specs.Run.{Fits, RunIs};

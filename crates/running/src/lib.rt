@@ -1,5 +1,6 @@
 // run, stepi: some steps, until an exception or two matches stop them. new: a reset, and a run of no steps that judges what was made.
 #![tactic(auto)]
+
 use answer::{Answer, Reason, refused};
 use session::work::{Settings, Work, Worked};
 

@@ -1,5 +1,6 @@
 // What a person sees. Each function lays text into a lent buffer from a place on, and answers the place behind it. A screen has at most 80 columns.
 #![tactic(auto)]
+
 pub mod tables; // info registers, info tlb, info printers
 pub mod cp0; // info cp0
 pub mod clocks; // info clocks

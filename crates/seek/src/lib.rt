@@ -1,5 +1,6 @@
 // Questions about the steps on hand, answered from their records: the newest step that changed a word of RAM, and the newest and the oldest at a PC.
 #![tactic(auto)]
+
 ghost use Rattle.std.specs.Prelude.{◌≡◌, map, length};
 ghost use Rattle.seek.specs.OnHand.{fits_in, Fits, kth_of, held_of};
 ghost use Rattle.seek.specs.Latest.{word_before, scan};

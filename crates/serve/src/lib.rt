@@ -1,5 +1,6 @@
 // The machine does what a turn of a session with gdb asks of it: a packet is answered, a line for the station is done, or a piece is run.
 #![tactic(auto)]
+
 use gdb::Task;
 use packets::answer;
 use rcmd::command;

@@ -1,5 +1,6 @@
 // The words that a session is made of, what has happened, what a turn does and what it answers.
 #![tactic(auto)]
+
 pub mod words; // the words, and what the session is in the middle of
 pub mod event; // what has happened, by number
 pub mod work; // what a turn asks of the machine, and what came of it

@@ -1,5 +1,6 @@
 // Not for the panel: what tests ask of the crate `seek`. The step is 0 where there is none.
 #![tactic(auto)]
+
 ghost use Rattle.std.specs.Prelude.{◌≡◌};
 ghost use Rattle.seek.specs.Seek.{last_change_of, newest_at_of, oldest_at_of};
 ghost use Rattle.sought.specs.Numbers.{place_number, sought_numbers};

@@ -1,5 +1,6 @@
 // The words of a session with gdb, what a turn wants next, and what stands at the start of a packet.
 #![tactic(auto)]
+
 pub mod words; // the words, and what the session is in the middle of
 pub mod packet; // what a packet begins with
 

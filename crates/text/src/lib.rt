@@ -1,5 +1,6 @@
 // Numbers as text: read from a line, and laid into a buffer. Places are counted from the start of the line or of the buffer.
 #![tactic(auto)]
+
 pub mod found; // what stands at a place of a line
 pub mod read; // the number at a place of a line
 pub mod write; // bytes and numbers laid into a buffer, as many bytes as fit

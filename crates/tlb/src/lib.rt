@@ -1,5 +1,6 @@
 // The translation table: sixteen rows of two words, passed and handed back whole.
 #![tactic(auto)]
+
 ghost use Rattle.std.specs.Prelude.{◌≡◌, cond};
 ghost use Rattle.tlb.specs.Entry.{matches_of, read_at, written_at};
 ghost use Rattle.tlb.specs.Search.{is_at, found_in, lowest_of};

@@ -2,6 +2,7 @@
 // it keeps of the state, and ended with what the step overwrites once that is decided: so no old value is kept aside while the step works. The decision itself, which
 // takes the table by value, is the loop's to ask for: a function that took the table in and on would copy it in every step (docs/SPEED.md).
 #![tactic(auto)]
+
 ghost use Rattle.std.specs.Prelude.{◌≡◌, length};
 ghost use Rattle.printer.specs.Saved.{saved_paper_of};
 ghost use Rattle.held.specs.Board.{printers_in, Told};

@@ -1,5 +1,6 @@
 // What a technician looks at.
 #![tactic(auto)]
+
 mod paper; // paper
 mod examine; // x, xp
 

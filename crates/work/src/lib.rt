@@ -1,5 +1,6 @@
 // The machine does what a turn asks of it.
 #![tactic(auto)]
+
 mod judge; // new: whether a station can be made
 mod load; // load
 mod taken_back; // back, reverse-stepi

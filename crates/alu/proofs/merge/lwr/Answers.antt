@@ -1,0 +1,21 @@
+-- `alu::merge::lwr` meets its contract: at each of the four places, how many bytes come from each of the two.
+use Rattle.std.proofs.Common.{◌≡◌, ◌/◌, ◌%◌, arith, rules}
+use Rattle.word.specs.Little.{to_bytes}
+use Rattle.alu.proofs.Parts.{joined}
+use Rattle.alu.proofs.merge.lwr.Goals as goal
+
+pub returns-in-0 : goal.returns-in-0
+unfolding to_bytes
+returns-in-0 c = rw (c.in-0.keys1, joined 4 0 c.args.word (c.args.register / 256 / 256 / 256 / 256)) (omega arith)
+
+pub returns-in-1 : goal.returns-in-1
+unfolding to_bytes
+returns-in-1 c = rw (c.in-0.keys2, joined 3 1 (c.args.word / 256) (c.args.register / 256 / 256 / 256)) (omega arith)
+
+pub returns-in-2 : goal.returns-in-2
+unfolding to_bytes
+returns-in-2 c = rw (c.in-0.keys3, joined 2 2 (c.args.word / 256 / 256) (c.args.register / 256 / 256)) (omega arith)
+
+pub returns-in_default : goal.returns-in_default
+unfolding to_bytes
+returns-in_default c = let last : c.args.place % 4 ≡ 3 = omega arith in rw (last, joined 1 3 (c.args.word / 256 / 256 / 256) (c.args.register / 256)) (omega arith)

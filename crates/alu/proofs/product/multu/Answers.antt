@@ -1,0 +1,6 @@
+-- `alu::product::multu` meets its contract.
+use Rattle.std.proofs.Common.{rules}
+use Rattle.alu.proofs.product.multu.Goals as goal
+
+pub returns : goal.returns
+returns c = rw (c.split_word.ensures, c.product.ensures)

@@ -1,0 +1,6 @@
+-- `alu::sum::slti` meets its contract.
+use Rattle.std.proofs.Common.{rules}
+use Rattle.alu.proofs.sum.slti.Goals as goal
+
+pub returns : goal.returns
+returns c = rw (c.slt.ensures, c.extend16.ensures)

@@ -1,0 +1,18 @@
+-- `backward::take_back` meets its contract: rows 1, 3 and 4 first, then the rest.
+use mathlib.Core.Path.{sym, ◌∙◌}
+use Rattle.backward.specs.Back.{back_leaves}
+use borrow.Author.Rules.{rules}
+use Rattle.backward.proofs.take_back.Goals as goal
+
+pub with_image-requires : goal.with_image-requires
+with_image-requires c = sym c.buffers_test-test.ensures ∙ c.enum_told-1.given.1
+
+pub returns-in-Failed : goal.returns-in-Failed
+unfolding back_leaves
+returns-in-Failed c = rw (sym c.buffers_test-test.ensures ∙ c.test-1.given.1)
+
+pub returns-in-Passed : goal.returns-in-Passed
+unfolding back_leaves
+returns-in-Passed c =
+    let rest = c in
+    rw (sym rest.buffers_test-test.ensures ∙ rest.enum_told-1.given.1) rest.with_image.ensures

@@ -1,0 +1,43 @@
+-- `board::rom::answered` meets its contract: what `fit` ensures of each ROM, and `held` of the address.
+use borrow.Author.Tests.{not-true, not-false}
+use Rattle.board.specs.Rom.{answer_of}
+use borrow.Author.Rules.{rules}
+use Rattle.board.proofs.rom.answered.Goals as goal
+
+pub returns-then-not-fit : goal.returns-then-not-fit
+unfolding answer_of
+returns-then-not-fit c = rw (← c.fit.ensures, not-true c.fit.result c.if-not-fit.true)
+
+pub returns-then-not-fit-2 : goal.returns-then-not-fit-2
+unfolding answer_of
+returns-then-not-fit-2 c =
+    rw (
+      ← c.fit.ensures,
+      not-false c.fit.result c.if-not-fit.false,
+      ← c.fit-2.ensures,
+      not-true c.fit-2.result c.if-not-fit-2.true,
+    )
+
+pub returns-then-not-held : goal.returns-then-not-held
+unfolding answer_of
+returns-then-not-held c =
+    rw (
+      ← c.fit.ensures,
+      not-false c.fit.result c.if-not-fit.false,
+      ← c.fit-2.ensures,
+      not-false c.fit-2.result c.if-not-fit-2.false,
+      ← c.held.ensures,
+      not-true c.held.result c.if-not-held.true,
+    )
+
+pub returns : goal.returns
+unfolding answer_of
+returns c =
+    rw (
+      ← c.fit.ensures,
+      not-false c.fit.result c.if-not-fit.false,
+      ← c.fit-2.ensures,
+      not-false c.fit-2.result c.if-not-fit-2.false,
+      ← c.held.ensures,
+      not-false c.held.result c.if-not-held.false,
+    )

@@ -1,0 +1,6 @@
+-- `bus::store::timer_line` meets its contract, by cases.
+use borrow.Author.Rules.{rules}
+use Rattle.bus.proofs.store.timer_line.Goals as goal
+
+pub returns-in-Timer : goal.returns-in-Timer
+returns-in-Timer c = rw c.enum_told-1.given.1 c.with_line.ensures

@@ -1,0 +1,6 @@
+-- `command::read::examine` meets its contract.
+use borrow.Author.Rules.{rules}
+use Rattle.command.proofs.read.examine.Goals as goal
+
+pub returns : goal.returns
+returns c = rw c.looking-seen.ensures

@@ -1,0 +1,6 @@
+-- `command::read::new` meets its contract.
+use borrow.Author.Rules.{rules}
+use Rattle.command.proofs.read.new.Goals as goal
+
+pub returns : goal.returns
+returns c = rw c.making-made.ensures

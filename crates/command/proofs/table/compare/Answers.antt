@@ -1,0 +1,8 @@
+-- `command::table::compare` meets its contract.
+use Rattle.command.specs.Table.{compare_of}
+use borrow.Author.Rules.{rules}
+use Rattle.command.proofs.table.compare.Goals as goal
+
+pub returns : goal.returns
+unfolding compare_of
+returns c = rw (c.end-mark.ensures, c.named-folder.ensures, c.word.ensures)

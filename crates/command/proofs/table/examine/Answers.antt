@@ -1,0 +1,6 @@
+-- `command::table::examine` meets its contract.
+use borrow.Author.Rules.{rules}
+use Rattle.command.proofs.table.examine.Goals as goal
+
+pub returns : goal.returns
+returns c = rw c.looking-seen.ensures

@@ -1,0 +1,6 @@
+-- `command::table::new` meets its contract.
+use borrow.Author.Rules.{rules}
+use Rattle.command.proofs.table.new.Goals as goal
+
+pub returns : goal.returns
+returns c = rw c.making-made.ensures

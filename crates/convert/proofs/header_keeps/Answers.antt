@@ -1,0 +1,6 @@
+-- `convert::header_keeps` meets its contract, from what `word_at` ensures.
+use borrow.Author.Rules.{rules}
+use Rattle.convert.proofs.header_keeps.Goals as goal
+
+pub returns : goal.returns
+returns c = rw c.word_at.ensures

@@ -1,0 +1,6 @@
+-- `cp0::interrupt::interrupts` meets its contract.
+use borrow.Author.Rules.{rules}
+use Rattle.cp0.proofs.interrupt.interrupts.Goals as goal
+
+pub returns : goal.returns
+returns c = rw c.has_bit.ensures

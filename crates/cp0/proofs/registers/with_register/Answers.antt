@@ -1,0 +1,36 @@
+-- `cp0::registers::with_register` meets its contract, by cases.
+use Rattle.cp0.specs.Registers.{with_register}
+use borrow.Author.Rules.{rules}
+use Rattle.cp0.proofs.registers.with_register.Goals as goal
+
+pub returns-in-Index : goal.returns-in-Index
+unfolding with_register
+returns-in-Index c = rw c.enum_told-1.given.1
+
+pub returns-in-Random : goal.returns-in-Random
+unfolding with_register
+returns-in-Random c = rw c.enum_told-in-Random-1.given.1
+
+pub returns-in-EntryLo : goal.returns-in-EntryLo
+unfolding with_register
+returns-in-EntryLo c = rw c.enum_told-in-EntryLo-1.given.1
+
+pub returns-in-BadVAddr : goal.returns-in-BadVAddr
+unfolding with_register
+returns-in-BadVAddr c = rw c.enum_told-in-BadVAddr-1.given.1
+
+pub returns-in-EntryHi : goal.returns-in-EntryHi
+unfolding with_register
+returns-in-EntryHi c = rw c.enum_told-in-EntryHi-1.given.1
+
+pub returns-in-Status : goal.returns-in-Status
+unfolding with_register
+returns-in-Status c = rw c.enum_told-in-Status-1.given.1
+
+pub returns-in-Cause : goal.returns-in-Cause
+unfolding with_register
+returns-in-Cause c = rw c.enum_told-in-Cause-1.given.1
+
+pub returns-in-Epc : goal.returns-in-Epc
+unfolding with_register
+returns-in-Epc c = rw c.enum_told-in-Epc-1.given.1

@@ -1,0 +1,43 @@
+-- `decide::fetch::fetch_slow` meets its contract: the answer, and the word where it lands, for which there is room (`reached-room`).
+use Rattle.reach.specs.declared.access.Kind.TheVariants.{Fetch}
+use Rattle.reach.specs.declared.access.Width.TheVariants.{Four}
+use Rattle.intend.proofs.InParts.{reached_in_parts}
+use Rattle.decide.specs.Fetch.{fetch_of}
+use Rattle.decide.proofs.Held.{reached_room}
+use borrow.Author.Rules.{rules}
+use Rattle.decide.proofs.fetch.fetch_slow.Goals as goal
+
+pub word_in-requires : goal.word_in-requires
+word_in-requires c =
+    let landed = c in
+    let before = landed in
+    let sized = before in
+    let start = sized in
+    let a = start.args in
+    let answer =
+    reached_in_parts Fetch Four a.core.cp0-1 a.rows _ a.core.pc before.Mode-of.ensures before.physical-to.ensures landed.landed-answer.ensures in
+    reached_room _ start.requires _ _ _ _ _ sized.sizes-lent.ensures answer c.answer-1.given.1
+
+pub returns-in-Lands : goal.returns-in-Lands
+unfolding fetch_of
+returns-in-Lands c =
+    let landed = c in
+    let before = landed in
+    let sized = before in
+    let start = sized in
+    let a = start.args in
+    let answer =
+    reached_in_parts Fetch Four a.core.cp0-1 a.rows _ a.core.pc before.Mode-of.ensures before.physical-to.ensures landed.landed-answer.ensures in
+    rw (← sized.sizes-lent.ensures, ← answer, c.answer-1.given.1, c.word_in.ensures)
+
+pub returns-in-Exception : goal.returns-in-Exception
+unfolding fetch_of
+returns-in-Exception c =
+    let landed = c in
+    let before = landed in
+    let sized = before in
+    let start = sized in
+    let a = start.args in
+    let answer =
+    reached_in_parts Fetch Four a.core.cp0-1 a.rows _ a.core.pc before.Mode-of.ensures before.physical-to.ensures landed.landed-answer.ensures in
+    rw (← sized.sizes-lent.ensures, ← answer, c.answer-in-Exception-1.given.1)

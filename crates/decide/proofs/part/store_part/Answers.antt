@@ -1,0 +1,15 @@
+-- `decide::part::store_part` meets its contract: by cases.
+use borrow.Author.Rules.{rules}
+use Rattle.decide.proofs.part.store_part.Goals as goal
+
+pub returns-in-Sb : goal.returns-in-Sb
+returns-in-Sb c = rw (c.enum_told-1.given.1, c.with_byte.ensures)
+
+pub returns-in-Sh : goal.returns-in-Sh
+returns-in-Sh c = rw (c.enum_told-in-Sh-1.given.1, c.with_half.ensures)
+
+pub returns-in-Swl : goal.returns-in-Swl
+returns-in-Swl c = rw (c.enum_told-in-Swl-1.given.1, c.swl.ensures)
+
+pub returns-in-Swr : goal.returns-in-Swr
+returns-in-Swr c = rw (c.enum_told-in-Swr-1.given.1, c.swr.ensures)

@@ -1,0 +1,6 @@
+-- `decide::settle::branched` meets its contract: what `written` gives of the link.
+use borrow.Author.Rules.{rules}
+use Rattle.decide.proofs.settle.branched.Goals as goal
+
+pub returns : goal.returns
+returns c = rw c.written.ensures

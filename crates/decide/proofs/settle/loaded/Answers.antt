@@ -1,0 +1,19 @@
+-- `decide::settle::loaded` meets its contract: by cases; where the access lands there is room.
+use borrow.Author.Rules.{rules}
+use Rattle.decide.proofs.settle.loaded.Goals as goal
+
+pub word_in-word-requires : goal.word_in-word-requires
+word_in-word-requires c = rw c.reached-1.given.1 at c.requires.0
+
+pub returns-in-Lands : goal.returns-in-Lands
+returns-in-Lands c =
+    rw (
+      c.reached-1.given.1,
+      c.on.ensures,
+      c.loads.ensures,
+      c.reg.ensures,
+      c.word_in-word.ensures,
+    )
+
+pub returns-in-Exception : goal.returns-in-Exception
+returns-in-Exception c = rw (c.reached-in-Exception-1.given.1, c.refused.ensures)

@@ -1,0 +1,6 @@
+-- `decide::settle::written` meets its contract: what `to_register` gives.
+use borrow.Author.Rules.{rules}
+use Rattle.decide.proofs.settle.written.Goals as goal
+
+pub returns : goal.returns
+returns c = rw c.to_register.ensures

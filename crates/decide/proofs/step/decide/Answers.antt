@@ -1,0 +1,16 @@
+-- `decide::step::decide` meets its contract: the interrupt test, then what the fetch gave (`decide-done`).
+use mathlib.Core.Path.{sym, ◌∙◌}
+use Rattle.decide.specs.Decide.{decide_of}
+use Rattle.decide.proofs.Fetches.{decide_done}
+use borrow.Author.Rules.{rules}
+use Rattle.decide.proofs.step.decide.Goals as goal
+
+pub returns-then-interrupts : goal.returns-then-interrupts
+unfolding decide_of
+returns-then-interrupts c = rw (← c.interrupts.ensures, c.if-interrupts.true) c.trapped.ensures
+
+pub returns-in-Word : goal.returns-in-Word
+returns-in-Word c = c.execute.ensures ∙ sym (decide_done _ _ _ _ (sym c.interrupts.ensures ∙ c.if-interrupts.false) c.fetch.ensures c.word-1.given.1)
+
+pub returns-in-Refused : goal.returns-in-Refused
+returns-in-Refused c = c.refused.ensures ∙ sym (decide_done _ _ _ _ (sym c.interrupts.ensures ∙ c.if-interrupts.false) c.fetch.ensures c.code-1.given.1)

@@ -1,0 +1,71 @@
+-- `saved::keep` meets its contract: what fits lies inside.
+use mathlib.Core.Path.{sym, ap, ◌∙◌}
+use native.Mathlib.Omega.{arith}
+use borrow.Author.Tests.{eq-eqb, ne_eqb}
+use lib.ListN.{length}
+use Prim.Native.Nat.{ℕ, ◌+◌}
+use Rattle.disk.specs.declared.four.Four.{Four}
+use Rattle.disk.specs.Fields.{offset_of}
+use Rattle.disk.specs.Four.{four_at}
+use Rattle.disk.specs.Tick.{ram_place}
+use Rattle.disk.specs.Saved.{work_kept}
+use Rattle.disk.proofs.Given.{idle_kept, read_kept, written_kept, still_kept}
+use Rattle.disk.proofs.Places.{Fitting, fitting, reads_fits, writes_fits}
+use borrow.Author.Rules.{rules}
+use Rattle.disk.proofs.saved.keep.Goals as goal
+
+-- what is read or written fits
+read_fits : (c : tie.Then2) → let a = c.args in Fitting (length a.ram.now) (length a.bytes.now) a.d
+read_fits c =
+    let a = c.args in
+    fitting (length a.ram.now) (length a.bytes.now) a.d (reads_fits (length a.ram.now) (length a.bytes.now) a.d (sym c.reads.ensures ∙ c.if-reads.true))
+
+write-fits : (c : tie.Then3) → let a = c.args in Fitting (length a.ram.now) (length a.bytes.now) a.d
+write-fits c =
+    let a = c.args in
+    fitting (length a.ram.now) (length a.bytes.now) a.d (writes_fits (length a.ram.now) (length a.bytes.now) a.d (sym c.writes.ensures ∙ c.if-writes.true))
+
+pub returns-then-d-ne-BUSY : goal.returns-then-d-ne-BUSY
+returns-then-d-ne-BUSY c =
+    let a = c.args in
+    sym (idle_kept a.d a.ram.now a.bytes.now (ne_eqb a.d.status 3 c.if-d-ne-BUSY.true))
+
+pub overflow_sub-place : goal.overflow_sub-place
+overflow_sub-place c = let f = read_fits c in omega arith
+
+pub overflow_sub-place-then-reads : goal.overflow_sub-place-then-reads
+overflow_sub-place-then-reads c = let f = read_fits c in omega arith
+
+pub four_at-word-requires : goal.four_at-word-requires
+four_at-word-requires c = let f = read_fits c in omega arith
+
+pub returns-then-reads : goal.returns-then-reads
+returns-then-reads c =
+    let a = c.args in
+    let on = sym c.reads.ensures ∙ c.if-reads.true in
+    c.work_kept.ensures ∙ ap (λ (f : Four). work_kept 2 (ram_place a.d) f a.d) c.four_at-word.ensures ∙ sym (read_kept a.d a.ram.now a.bytes.now on)
+
+pub overflow_sub-at : goal.overflow_sub-at
+overflow_sub-at c = let f = write-fits c in omega arith
+
+pub four_at-word-requires-then-writes : goal.four_at-word-requires-then-writes
+four_at-word-requires-then-writes c =
+    let f = write-fits c in
+    let e = c.Block-of.ensures.place_is in
+    omega arith
+
+pub returns-then-writes : goal.returns-then-writes
+returns-then-writes c =
+    let a = c.args in
+    let on = sym c.writes.ensures ∙ c.if-writes.true in
+    c.work_kept-then-writes.ensures
+    ∙ ap (λ (f : Four). work_kept 3 0 f a.d) (c.four_at-word-then-writes.ensures ∙ ap (λ (b : ℕ). four_at a.bytes.now (b + offset_of a.d)) c.Block-of.ensures.place_is)
+    ∙ sym (written_kept a.d a.ram.now a.bytes.now on)
+
+pub returns : goal.returns
+returns c =
+    let a = c.args in
+    let busy = eq-eqb a.d.status 3 c.if-d-ne-BUSY.false in
+    let unread = sym c.reads.ensures ∙ c.if-reads.false in
+    let unwritten = sym c.writes.ensures ∙ c.if-writes.false in
+    c.work_kept-2.ensures ∙ sym (still_kept a.d a.ram.now a.bytes.now busy unread unwritten)

@@ -1,0 +1,6 @@
+-- `tick::fits` meets its contract.
+use borrow.Author.Rules.{rules}
+use Rattle.disk.proofs.tick.fits.Goals as goal
+
+pub returns : goal.returns
+returns c = rw (← c.Block-of.ensures.place_is, ← c.in_ram.ensures)

@@ -1,0 +1,10 @@
+-- `words::four_word` meets its contract.
+use native.Mathlib.Omega.{arith}
+use Rattle.word.specs.Little.{from_bytes}
+use Rattle.disk.specs.Words.{four_word}
+use borrow.Author.Rules.{rules}
+use Rattle.disk.proofs.words.four_word.Goals as goal
+
+pub returns : goal.returns
+unfolding four_word from_bytes
+returns c = omega (arith, c.wide-4.ensures, c.wide-3.ensures, c.wide-2.ensures, c.wide.ensures)

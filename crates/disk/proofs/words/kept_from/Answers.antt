@@ -1,0 +1,8 @@
+-- `words::kept_from` meets its contract.
+use Rattle.disk.specs.Words.{kept_from}
+use borrow.Author.Rules.{rules}
+use Rattle.disk.proofs.words.kept_from.Goals as goal
+
+pub returns : goal.returns
+unfolding kept_from
+returns c = rw c.four_from-four.ensures

@@ -1,0 +1,6 @@
+-- `command::takes_writes` meets its contract.
+use borrow.Author.Rules.{rules}
+use Rattle.disks.proofs.command.takes_writes.Goals as goal
+
+pub returns : goal.returns
+returns c = rw c.has_bit.ensures

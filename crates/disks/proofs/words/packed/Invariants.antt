@@ -1,0 +1,17 @@
+-- `words::packed` meets its contract. The invariant: the words of the disks passed are stored, and nothing else.
+use mathlib.Core.Path.{◌≡◌, refl, ◌∙◌}
+use Prim.Native.Nat.{◌-◌, ◌≤◌, ◌<◌}
+use native.Mathlib.Omega.{arith}
+use lib.ListN.{length, take}
+use lib.Seq.{sets, take-length}
+use Rattle.word.specs.Lists.{flat}
+use Rattle.word.proofs.Lists.{sets_whole, store_step}
+use Rattle.disks.specs.Words.{disk_words}
+use Rattle.disks.proofs.Packed.{seven_words, length_held}
+use Rattle.disks.proofs.words.packed.Given as goal
+
+abbrev pub invariant-loop-n : goal.invariant-loop-n
+invariant-loop-n l = (l.n ≤ 8) × (l.words ≡ sets l.initial.words 0 (flat disk_words (take l.n l.disks)))
+
+abbrev pub decreases-loop-n : goal.decreases-loop-n
+decreases-loop-n l = 8 - l.n

@@ -1,0 +1,17 @@
+-- `words::unpacked` meets its contract. The invariant: the disks passed are read, and the rest is as it was.
+use mathlib.Core.Path.{◌≡◌, refl}
+use mathlib.Core.List.{◌++◌}
+use Prim.Native.Nat.{◌-◌, ◌≤◌}
+use native.Mathlib.Omega.{arith}
+use lib.ListN.{drop}
+use Rattle.word.specs.Lists.{tabulate}
+use Rattle.word.proofs.Lists.{fill_step, fill_end}
+use Rattle.disks.specs.Words.{disk_in, disks_in}
+use borrow.Author.Rules.{rules}
+use Rattle.disks.proofs.words.unpacked.Given as goal
+
+abbrev pub invariant-loop-n : goal.invariant-loop-n
+invariant-loop-n l = (l.n ≤ 8) × (l.disks ≡ tabulate l.n (disk_in l.words) ++ drop l.n l.initial.disks)
+
+abbrev pub decreases-loop-n : goal.decreases-loop-n
+decreases-loop-n l = 8 - l.n

@@ -1,0 +1,6 @@
+-- `forms::form::numbered` meets its contract.
+use borrow.Author.Rules.{rules}
+use Rattle.forms.proofs.form.numbered.Goals as goal
+
+pub returns : goal.returns
+returns c = rw (c.counted-n.ensures, c.word.ensures)

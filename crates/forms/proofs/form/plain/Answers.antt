@@ -1,0 +1,6 @@
+-- `forms::form::plain` meets its contract.
+use borrow.Author.Rules.{rules}
+use Rattle.forms.proofs.form.plain.Goals as goal
+
+pub returns : goal.returns
+returns c = rw (c.end-mark.ensures, c.word.ensures)

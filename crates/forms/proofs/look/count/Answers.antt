@@ -1,0 +1,6 @@
+-- `forms::look::count` meets its contract.
+use borrow.Author.Rules.{rules}
+use Rattle.forms.proofs.look.count.Goals as goal
+
+pub returns : goal.returns
+returns c = rw (c.count_of.ensures, c.decimal-found.ensures)

@@ -1,0 +1,6 @@
+-- `frames::is_at` meets its contract.
+use Rattle.std.proofs.Common.{rules}
+use Rattle.frames.proofs.is_at.Goals as goal
+
+pub returns-in-At : goal.returns-in-At
+returns-in-At c = rw c.e-1.given.1

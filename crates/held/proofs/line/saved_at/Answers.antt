@@ -1,0 +1,15 @@
+-- `held::line::saved_at` meets its contract: a printer that goes on prints nothing.
+use Rattle.held.proofs.LineHeld.{goes_on, looked_at}
+use borrow.Author.Rules.{rules}
+use Rattle.held.proofs.line.saved_at.Goals as goal
+
+pub returns-then-words-n-gt1 : goal.returns-then-words-n-gt1
+returns-then-words-n-gt1 c =
+    let a = c.args in
+    goes_on a.words.now a.n a.paper.now c.if-words-n-gt1.true
+
+pub returns : goal.returns
+returns c =
+    let read = c in
+    let a = read.args in
+    looked_at a.words.now a.n a.paper.now read.printer_in-p.ensures c.prints.ensures c.saved_byte.ensures

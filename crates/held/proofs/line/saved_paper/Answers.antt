@@ -1,0 +1,42 @@
+-- `held::line::saved_paper` meets its contract. The invariant: the map and the bytes of the printers passed are made.
+use Rattle.core.specs.Prelude.{◌≡◌, ◌-◌, ◌<◌, ◌≤◌, cond, ◌++◌, get_or, drop}
+use mathlib.Core.Path.{refl, sym, ap, ◌∙◌}
+use native.Mathlib.Omega.{arith}
+use native.Mathlib.Numerals.{add-one}
+use Rattle.word.specs.Lists.{tabulate}
+use Rattle.word.proofs.Lists.{fill_step, fill_end}
+use Rattle.printer.specs.Tick.{room_of, place_of, prints}
+use Rattle.printer.specs.Saved.{printing_map, saved_byte, saved_paper_of}
+use Rattle.printer.specs.declared.Printer.{Printer}
+use Rattle.held.specs.Board.{printers_in}
+use Rattle.held.proofs.Stored.{printer_at}
+use Rattle.held.proofs.line.saved_paper.Goals as goal
+
+pub loop-n-init : goal.loop-n-init
+unfolding printing_map
+loop-n-init c = (omega arith, refl, refl)
+
+pub loop-n-preserved : goal.loop-n-preserved
+unfolding printing_map
+loop-n-preserved c =
+    let kept = c in
+    let l = kept.loop-n in
+    let a = kept.args in
+    let few : l.n < 8 = omega arith in
+    let same = sym (printer_at a.words.now l.n few) in
+    let room = room_of a.paper.now in
+    let one = kept.saved_at-one.ensures.byte_is ∙ ap (λ (q : Printer). cond (prints room q) (get_or a.paper.now (place_of room l.n q.count) 0) 0) same in (
+      omega arith,
+      rw (add-one l.n, c.with_bit-mask.ensures, kept.saved_at-one.ensures.on_is ∙ ap (prints room) same, l.invariant.1),
+      rw one (fill_step (saved_byte (printers_in a.words.now) a.paper.now) _ l.bytes l.n (omega arith) l.invariant.2),
+    )
+
+pub returns : goal.returns
+unfolding saved_paper_of
+returns c =
+    let l = c.loop-n in
+    let a = c.args in
+    let all : l.n ≡ 8 = omega arith in
+    let map = rw all at l.invariant.1 in
+    let bytes = fill_end (saved_byte (printers_in a.words.now) a.paper.now) _ l.bytes l.n all l.invariant.2 in
+    rw (map, bytes)

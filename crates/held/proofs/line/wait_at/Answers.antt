@@ -1,0 +1,13 @@
+-- `held::line::wait_at` meets its contract (`waits`).
+use native.Mathlib.Omega.{arith}
+use mathlib.Core.Path.{ap}
+use Rattle.core.specs.Prelude.{ℕ, ◌+◌, ◌*◌, set}
+use Rattle.held.proofs.LineHeld.{waits}
+use borrow.Author.Rules.{rules}
+use Rattle.held.proofs.line.wait_at.Goals as goal
+
+pub waited-requires : goal.waited-requires
+waited-requires c = λ e. let more = c.requires.2 e in omega (arith, more)
+
+pub returns : goal.returns
+returns c = let start = c in let a = start.args in waits a.words.now a.n start.requires.0 start.requires.1 start.requires.2 (ap (set a.words.now (5 * a.n + 3)) c.waited.ensures)

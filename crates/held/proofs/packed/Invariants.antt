@@ -1,0 +1,16 @@
+-- `held::packed` meets its contract. The invariant: the words of the printers passed are stored, and nothing else.
+use Rattle.core.specs.Prelude.{◌≡◌, ◌-◌, ◌<◌, ◌≤◌, length, take}
+use mathlib.Core.Path.{refl, ◌∙◌}
+use native.Mathlib.Omega.{arith}
+use lib.Seq.{sets, take-length}
+use Rattle.word.specs.Lists.{flat}
+use Rattle.word.proofs.Lists.{sets_whole, store_step}
+use Rattle.state.specs.Layout.{printer_words}
+use Rattle.held.proofs.Board.{five_words, length_held}
+use Rattle.held.proofs.packed.Given as goal
+
+abbrev pub invariant-loop-n : goal.invariant-loop-n
+invariant-loop-n l = (l.n ≤ 8) × (l.words ≡ sets l.initial.words 0 (flat printer_words (take l.n l.printers)))
+
+abbrev pub decreases-loop-n : goal.decreases-loop-n
+decreases-loop-n l = 8 - l.n

@@ -1,0 +1,15 @@
+-- `intend::hi_lo::multiplied` meets its contract: by cases.
+use Rattle.std.proofs.Common.{rules}
+use Rattle.intend.proofs.hi_lo.multiplied.Goals as goal
+
+pub returns-in-Mult : goal.returns-in-Mult
+returns-in-Mult c = rw (c.enum_told-1.given.1, c.mult.ensures)
+
+pub returns-in-Multu : goal.returns-in-Multu
+returns-in-Multu c = rw (c.enum_told-in-Multu-1.given.1, c.multu.ensures)
+
+pub returns-in-Div : goal.returns-in-Div
+returns-in-Div c = rw (c.enum_told-in-Div-1.given.1, c.div.ensures)
+
+pub returns-in-Divu : goal.returns-in-Divu
+returns-in-Divu c = rw (c.enum_told-in-Divu-1.given.1, c.divu.ensures)

@@ -1,0 +1,9 @@
+-- `intend::operate::summed` meets its contract: by cases.
+use Rattle.std.proofs.Common.{rules}
+use Rattle.intend.proofs.operate.summed.Goals as goal
+
+pub returns-in-Sum : goal.returns-in-Sum
+returns-in-Sum c = rw c.sum-1.given.1
+
+pub returns-in-Overflow : goal.returns-in-Overflow
+returns-in-Overflow c = rw c.enum_told-1.given.1

@@ -1,0 +1,31 @@
+-- `isa::control::function` meets its contract: each arm by the entry of its key, the last by the rest of the table.
+use mathlib.Core.Path.{refl}
+use mathlib.Core.List.{List, [], ◌∷◌}
+use Prim.Native.Nat.{ℕ}
+use native.Mathlib.Omega.{arith}
+use Rattle.isa.specs.Cop0.{functions}
+use Rattle.isa.specs.declared.instr.Control.TheVariants.{Undefined}
+use Rattle.word.proofs.Rest.{rest}
+use Rattle.isa.proofs.control.function.Goals as goal
+
+-- the keys of the `match`, from the last to the first
+abbrev keys : List ℕ
+keys = 16 ∷ 8 ∷ 6 ∷ 2 ∷ 1 ∷ []
+
+pub returns-in-1 : goal.returns-in-1
+returns-in-1 c = rw c.in-1.keys1
+
+pub returns-in-2 : goal.returns-in-2
+returns-in-2 c = rw c.in-1.keys2
+
+pub returns-in-6 : goal.returns-in-6
+returns-in-6 c = rw c.in-1.keys3
+
+pub returns-in-8 : goal.returns-in-8
+returns-in-8 c = rw c.in-1.keys4
+
+pub returns-in-16 : goal.returns-in-16
+returns-in-16 c = rw c.in-1.keys5
+
+pub returns-in_default : goal.returns-in_default
+returns-in_default c = rw (rest functions Undefined Undefined keys 64 0 refl _ (omega arith) (omega arith) c.in-1.rest)

@@ -1,0 +1,6 @@
+-- `isa::control::moved_from` meets its contract, by cases.
+use borrow.Author.Rules.{rules}
+use Rattle.isa.proofs.control.moved_from.Goals as goal
+
+pub returns-in-Is : goal.returns-in-Is
+returns-in-Is c = rw c.named-1.given.1

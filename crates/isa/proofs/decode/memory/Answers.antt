@@ -1,0 +1,69 @@
+-- `isa::decode::memory` meets its contract: each arm by the entry of its key, the last by the rest of the table.
+use mathlib.Core.Path.{refl}
+use mathlib.Core.List.{List, [], ◌∷◌}
+use Prim.Native.Nat.{ℕ}
+use native.Mathlib.Omega.{arith}
+use Rattle.isa.specs.Opcode.{opcodes, none}
+use Rattle.word.proofs.Rest.{rest}
+use Rattle.isa.proofs.decode.memory.Goals as goal
+
+-- the keys of the `match`, from the last to the first
+abbrev keys : List ℕ
+keys = 59 ∷ 58 ∷ 57 ∷ 51 ∷ 50 ∷ 49 ∷ 46 ∷ 43 ∷ 42 ∷ 41 ∷ 40 ∷ 38 ∷ 37 ∷ 36 ∷ 35 ∷ 34 ∷ 33 ∷ 32 ∷ []
+
+pub returns-in-32 : goal.returns-in-32
+returns-in-32 c = rw c.in-32.keys1
+
+pub returns-in-33 : goal.returns-in-33
+returns-in-33 c = rw c.in-32.keys2
+
+pub returns-in-34 : goal.returns-in-34
+returns-in-34 c = rw c.in-32.keys3
+
+pub returns-in-35 : goal.returns-in-35
+returns-in-35 c = rw c.in-32.keys4
+
+pub returns-in-36 : goal.returns-in-36
+returns-in-36 c = rw c.in-32.keys5
+
+pub returns-in-37 : goal.returns-in-37
+returns-in-37 c = rw c.in-32.keys6
+
+pub returns-in-38 : goal.returns-in-38
+returns-in-38 c = rw c.in-32.keys7
+
+pub returns-in-40 : goal.returns-in-40
+returns-in-40 c = rw c.in-32.keys8
+
+pub returns-in-41 : goal.returns-in-41
+returns-in-41 c = rw c.in-32.keys9
+
+pub returns-in-42 : goal.returns-in-42
+returns-in-42 c = rw c.in-32.keys10
+
+pub returns-in-43 : goal.returns-in-43
+returns-in-43 c = rw c.in-32.keys11
+
+pub returns-in-46 : goal.returns-in-46
+returns-in-46 c = rw c.in-32.keys12
+
+pub returns-in-49 : goal.returns-in-49
+returns-in-49 c = rw c.in-32.keys13
+
+pub returns-in-50 : goal.returns-in-50
+returns-in-50 c = rw c.in-32.keys14
+
+pub returns-in-51 : goal.returns-in-51
+returns-in-51 c = rw c.in-32.keys15
+
+pub returns-in-57 : goal.returns-in-57
+returns-in-57 c = rw c.in-32.keys16
+
+pub returns-in-58 : goal.returns-in-58
+returns-in-58 c = rw c.in-32.keys17
+
+pub returns-in-59 : goal.returns-in-59
+returns-in-59 c = rw c.in-32.keys18
+
+pub returns-in_default : goal.returns-in_default
+returns-in_default c = rw (rest opcodes none none keys 32 32 refl _ (omega arith) (omega arith) c.in-32.rest)

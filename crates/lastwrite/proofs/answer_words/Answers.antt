@@ -1,0 +1,15 @@
+-- `lastwrite::answer_words` meets its contract.
+use Rattle.std.proofs.Common.{arith, rules}
+use Rattle.frames.proofs.Answers.{wraps_back}
+use Rattle.lastwrite.proofs.Answers.{counted_at, words_at}
+use Rattle.lastwrite.proofs.answer_words.Goals as goal
+
+pub overflow_sub-k : goal.overflow_sub-k
+overflow_sub-k c = omega (arith, counted_at c.found-1.given.1 c.requires)
+
+pub returns-in-At : goal.returns-in-At
+returns-in-At c =
+    let known = c in
+    let time = known.args.time in
+    rw known.found-1.given.1
+    (words_at time _ _ _ _ (wraps_back c.wrapping_sub_u64-clock.result time _ (omega arith) (omega arith) c.wrapping_sub_u64-clock.ensures))

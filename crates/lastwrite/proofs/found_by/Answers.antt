@@ -1,0 +1,15 @@
+-- `lastwrite::found_by` meets its contract.
+use Rattle.std.proofs.Common.{ℕ, ap, ◌∙◌, rules}
+use Rattle.seek.specs.Seek.{last_change_of}
+use Rattle.lastwrite.proofs.found_by.Goals as goal
+
+pub place_of-requires : goal.place_of-requires
+place_of-requires c = c.requires
+
+pub returns : goal.returns
+returns c =
+    let placed = c in
+    let a = placed.args in
+    let mark = a.machine.journal in
+    c.last_change.ensures
+    ∙ ap (λ (place : ℕ). last_change_of a.ram.now a.journal.now mark.on_hand mark.next_slot place) placed.place_of.ensures

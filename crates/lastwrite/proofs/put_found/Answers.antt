@@ -1,0 +1,26 @@
+-- `lastwrite::put_found` meets its contract.
+use Rattle.std.proofs.Common.{ℕ, List, sym, ap, ◌∙◌, rules}
+use lib.Seq.{sets}
+use Rattle.word.specs.Lists.{flat}
+use Rattle.word.specs.Big.{word_bytes}
+use Rattle.word.proofs.Lists.{sets_whole}
+use Rattle.lastwrite.specs.LastWrite.{answer_words}
+use Rattle.lastwrite.proofs.Answers.{words_long}
+use Rattle.lastwrite.proofs.put_found.Goals as goal
+
+pub answer_words-words-requires : goal.answer_words-words-requires
+answer_words-words-requires c = c.requires.0
+
+pub returns : goal.returns
+returns c =
+    let put = c in
+    let words = put in
+    let start = words in
+    let a = start.args in
+    record {
+      answer_is = c.done.ensures;
+      bytes_is =
+          put.put_words.ensures
+          ∙ ap (λ (ws : List ℕ). sets a.answer.now 0 (flat word_bytes ws)) words.answer_words-words.ensures
+          ∙ sets_whole a.answer.now (flat word_bytes (answer_words a.time a.found)) (words_long a.time a.found ∙ sym start.requires.1);
+    }

@@ -1,0 +1,20 @@
+-- `memory::words::put_words` meets its contract. The invariant: the bytes of the words passed are stored, and nothing else.
+use mathlib.Core.Path.{◌≡◌, refl, ◌∙◌}
+use Prim.Native.Nat.{◌+◌, ◌*◌, ◌-◌, ◌≤◌, ◌<◌}
+use native.Mathlib.Omega.{arith}
+use lib.ListN.{length, take}
+use lib.Seq.{sets, take-length}
+use Rattle.word.specs.Lists.{flat}
+use Rattle.word.specs.Little.{to_bytes}
+use Rattle.word.proofs.Lists.{store_step}
+use Rattle.word.proofs.LittleBytes.{length_to}
+use Rattle.memory.proofs.Cells.{stored_sets}
+use Rattle.memory.proofs.words.put_words.Given as goal
+
+abbrev pub invariant-loop-i : goal.invariant-loop-i
+invariant-loop-i l =
+    (l.i-end ≡ length l.words) × (l.i ≤ length l.words) × (length l.m ≡ length l.initial.m)
+    × (l.m ≡ sets l.initial.m l.at (flat (to_bytes 4) (take l.i l.words)))
+
+abbrev pub decreases-loop-i : goal.decreases-loop-i
+decreases-loop-i l = l.i-end - l.i

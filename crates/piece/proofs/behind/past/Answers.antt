@@ -1,0 +1,6 @@
+-- `piece::behind::past` meets its contract.
+use borrow.Author.Rules.{rules}
+use Rattle.piece.proofs.behind.past.Goals as goal
+
+pub returns : goal.returns
+returns c = rw (c.gap.ensures, c.word.ensures)

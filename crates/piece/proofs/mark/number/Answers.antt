@@ -1,0 +1,11 @@
+-- `piece::mark::number` meets its contract.
+use mathlib.Core.Path.{sym, ◌∙◌}
+use Rattle.piece.proofs.Pieces.{number_goes, number_over}
+use borrow.Author.Rules.{rules}
+use Rattle.piece.proofs.mark.number.Goals as goal
+
+pub returns-then-m : goal.returns-then-m
+returns-then-m c = c.counted.ensures ∙ number_goes _ _ c.if-m.true _ c.number-found.ensures
+
+pub returns : goal.returns
+returns c = number_over _ _ c.if-m.false

@@ -1,0 +1,23 @@
+-- `rules::line_keeps` meets its contract. The invariant: `ok` says whether every printer passed keeps the rules.
+use borrow.Author.Rules.{rules}
+use mathlib.Core.Path.{◌≡◌, refl}
+use Prim.Native.Nat.{◌-◌, ◌≤◌}
+use native.Mathlib.Omega.{arith}
+use native.Mathlib.Numerals.{add-one}
+use Rattle.word.specs.Lists.{every}
+use Rattle.printer.specs.Rules.{printer_keeps_at, line_keeps}
+use Rattle.printer.proofs.rules.line_keeps.Goals as goal
+
+pub loop-n-init : goal.loop-n-init
+loop-n-init c = (omega arith, refl)
+
+pub loop-n-preserved : goal.loop-n-preserved
+loop-n-preserved c = let l = c.loop-n in
+    (omega arith, rw (add-one l.n, l.invariant.1, c.printer_keeps-ok.ensures, c.has_bit-in-loop-n.ensures, c.has_bit.ensures))
+
+pub returns : goal.returns
+unfolding line_keeps
+returns c = let l = c.loop-n in
+    let all : l.n ≡ 8 = omega arith in
+    let holds = rw all at l.invariant.1 in
+    rw holds

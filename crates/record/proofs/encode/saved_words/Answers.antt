@@ -1,0 +1,12 @@
+-- `record::encode::saved_words` meets its contract, variant by variant.
+use borrow.Author.Rules.{rules}
+use Rattle.record.proofs.encode.saved_words.Goals as goal
+
+pub returns-in-Register : goal.returns-in-Register
+returns-in-Register c = rw c.s-1.given.1
+
+pub returns-in-TlbRow : goal.returns-in-TlbRow
+returns-in-TlbRow c = rw c.s-in-TlbRow-1.given.1
+
+pub returns-in-RamWord : goal.returns-in-RamWord
+returns-in-RamWord c = rw c.s-in-RamWord-1.given.1

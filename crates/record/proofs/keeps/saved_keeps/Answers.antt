@@ -1,0 +1,26 @@
+-- `record::keeps::saved_keeps` meets its contract, kind by kind.
+use borrow.Author.Tests.{ne_eqb}
+use Rattle.record.specs.Keeps.{saved_keeps}
+use Rattle.record.proofs.keeps.saved_keeps.Goals as goal
+
+pub returns-in-0 : goal.returns-in-0
+unfolding saved_keeps
+returns-in-0 c = rw c.in-0.keys1
+
+pub returns-in-1 : goal.returns-in-1
+unfolding saved_keeps
+returns-in-1 c = rw c.in-0.keys2
+
+pub returns-in-2 : goal.returns-in-2
+unfolding saved_keeps
+returns-in-2 c = rw c.in-0.keys3
+
+pub returns-in-3 : goal.returns-in-3
+unfolding saved_keeps
+returns-in-3 c = rw c.in-0.keys4
+
+pub returns-in_default : goal.returns-in_default
+unfolding saved_keeps
+returns-in_default c =
+    let no = c.in-0.rest in
+    simp (ne_eqb _ _ no.0.0.0.1, ne_eqb _ _ no.0.0.1, ne_eqb _ _ no.0.1, ne_eqb _ _ no.1)

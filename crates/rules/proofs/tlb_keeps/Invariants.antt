@@ -1,0 +1,15 @@
+-- `rules::tlb_keeps` meets its contract. The invariant: `ok` says whether every row passed keeps the rule.
+use borrow.Author.Rules.{rules}
+use mathlib.Core.Path.{◌≡◌, refl}
+use Prim.Native.Nat.{◌-◌, ◌≤◌}
+use native.Mathlib.Omega.{arith}
+use native.Mathlib.Numerals.{add-one}
+use Rattle.word.specs.Lists.{every}
+use Rattle.rules.specs.Rules.{row_keeps}
+use Rattle.rules.proofs.tlb_keeps.Given as goal
+
+abbrev pub invariant-loop-i : goal.invariant-loop-i
+invariant-loop-i l = (l.i ≤ 16) × (l.ok ≡ every l.i (row_keeps l.rows))
+
+abbrev pub decreases-loop-i : goal.decreases-loop-i
+decreases-loop-i l = 16 - l.i

@@ -1,0 +1,11 @@
+-- `seek::newest` meets its contract. The invariant is `Passed`: no record passed is at the PC.
+use borrow.Author.Rules.{rules}
+use Prim.Native.Nat.{◌-◌}
+use Rattle.seek.proofs.Loops.{Passed, passed_start, passed_more, passed_stops, passed_ends}
+use Rattle.seek.proofs.newest.Given as goal
+
+abbrev pub invariant-loop-k : goal.invariant-loop-k
+invariant-loop-k l = Passed l.journal l.hand l.next l.pc l.k
+
+abbrev pub decreases-loop-k : goal.decreases-loop-k
+decreases-loop-k l = l.hand - l.k

@@ -1,0 +1,6 @@
+-- `sought::numbers` meets its contract.
+use borrow.Author.Rules.{rules}
+use Rattle.sought.proofs.numbers.Goals as goal
+
+pub returns-in-At : goal.returns-in-At
+returns-in-At c = rw c.s-1.given.1

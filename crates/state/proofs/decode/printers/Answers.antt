@@ -1,0 +1,25 @@
+-- `state::decode::printers` meets its contract. The invariant: the printers passed are read, and the rest is as it was.
+use mathlib.Core.Path.{◌≡◌, refl}
+use mathlib.Core.List.{◌++◌}
+use Prim.Native.Nat.{◌-◌, ◌≤◌}
+use native.Mathlib.Omega.{arith}
+use lib.ListN.{drop}
+use Rattle.word.specs.Lists.{tabulate}
+use Rattle.word.proofs.Lists.{fill_step, fill_end}
+use Rattle.state.specs.Layout.{body_word, printer_at}
+use Rattle.state.proofs.decode.printers.Goals as goal
+
+pub loop-i-init : goal.loop-i-init
+loop-i-init c = (omega arith, refl)
+
+pub loop-i-preserved : goal.loop-i-preserved
+loop-i-preserved c =
+    let l = c.loop-i in
+    let body = c.args.body.now in
+    (omega arith, rw c.printer.ensures (fill_step (printer_at (body_word body)) _ l.printers l.i (omega arith) l.invariant.1))
+
+pub returns : goal.returns
+returns c =
+    let l = c.loop-i in
+    let body = c.args.body.now in
+    fill_end (printer_at (body_word body)) _ l.printers l.i (omega arith) l.invariant.1

@@ -1,0 +1,17 @@
+-- `state::encode::printer_words` meets its contract. The invariant: the words of the printers passed are stored, and nothing else.
+use mathlib.Core.Path.{◌≡◌, refl, ◌∙◌}
+use Prim.Native.Nat.{suc, ◌+◌, ◌*◌, ◌-◌, ◌≤◌, ◌<◌}
+use native.Mathlib.Omega.{arith}
+use lib.ListN.{length, take, length-set}
+use lib.Seq.{sets, take-length}
+use Rattle.word.specs.Lists.{flat}
+use Rattle.word.proofs.Lists.{store_step, sets_whole, length_flat}
+use Rattle.state.specs.Layout.{printer_words}
+use Rattle.state.proofs.encode.printer_words.Given as goal
+
+abbrev pub invariant-loop-i : goal.invariant-loop-i
+invariant-loop-i l =
+    (l.i ≤ 8) × (length l.words ≡ 40) × (l.words ≡ sets l.initial.words 0 (flat printer_words (take l.i l.printers)))
+
+abbrev pub decreases-loop-i : goal.decreases-loop-i
+decreases-loop-i l = 8 - l.i

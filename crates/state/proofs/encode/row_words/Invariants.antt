@@ -1,0 +1,17 @@
+-- `state::encode::row_words` meets its contract. The invariant: the words of the rows passed are stored, and nothing else.
+use mathlib.Core.Path.{◌≡◌, refl, ◌∙◌}
+use Prim.Native.Nat.{suc, ◌+◌, ◌*◌, ◌-◌, ◌≤◌, ◌<◌}
+use native.Mathlib.Omega.{arith}
+use lib.ListN.{length, take, length-set}
+use lib.Seq.{sets, take-length}
+use Rattle.word.specs.Lists.{flat}
+use Rattle.word.proofs.Lists.{store_step, sets_whole, length_flat}
+use Rattle.state.specs.Layout.{row_words}
+use Rattle.state.proofs.encode.row_words.Given as goal
+
+abbrev pub invariant-loop-i : goal.invariant-loop-i
+invariant-loop-i l =
+    (l.i ≤ 16) × (length l.words ≡ 32) × (l.words ≡ sets l.initial.words 0 (flat row_words (take l.i l.rows)))
+
+abbrev pub decreases-loop-i : goal.decreases-loop-i
+decreases-loop-i l = 16 - l.i

@@ -1,0 +1,6 @@
+-- `step::tick::rang_line` meets its contract.
+use borrow.Author.Rules.{rules}
+use Rattle.step.proofs.tick.rang_line.Goals as goal
+
+pub returns-then-rang : goal.returns-then-rang
+returns-then-rang c = rw c.if-rang.true c.with_line.ensures

@@ -1,0 +1,9 @@
+-- `text::read::answer` meets its contract, by cases.
+use borrow.Author.Rules.{rules}
+use Rattle.text.proofs.read.answer.Goals as goal
+
+pub returns-in-Is : goal.returns-in-Is
+returns-in-Is c = rw c.total-1.given.1
+
+pub returns-in-TooLarge : goal.returns-in-TooLarge
+returns-in-TooLarge c = rw c.enum_told-1.given.1

@@ -1,0 +1,12 @@
+-- `text::read::digits` meets its contract.
+use mathlib.Core.Path.{sym, ◌∙◌}
+use Rattle.text.proofs.Heads.{head_within}
+use Rattle.text.proofs.Numbers.{digits_none, digits_some}
+use borrow.Author.Rules.{rules}
+use Rattle.text.proofs.read.digits.Goals as goal
+
+pub returns-then-to-from : goal.returns-then-to-from
+returns-then-to-from c = sym (digits_none _ _ _ _ _ c.digits_end-to.ensures c.if-to-from.true)
+
+pub returns : goal.returns
+returns c = c.answer.ensures ∙ sym (digits_some _ _ _ _ _ c.digits_end-to.ensures c.if-to-from.false c.sum-total.ensures)

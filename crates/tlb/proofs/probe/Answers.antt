@@ -1,0 +1,15 @@
+-- `tlb::probe` meets its contract: it is `probed` of what `lowest` finds.
+use mathlib.Core.Path.{◌≡◌, refl, ap, ◌∙◌}
+use borrow.Author.Rules.{rules}
+use Rattle.tlb.specs.Search.{found_in, lowest_of}
+use Rattle.tlb.specs.Index.{probed_of, probed_at}
+use Rattle.tlb.specs.declared.Found.{Found}
+use Rattle.tlb.specs.declared.Found.TheVariants.{At, Nothing}
+use Rattle.tlb.proofs.probe.Goals as goal
+
+probed-lowest : (f : Found) → probed_at (lowest_of f) ≡ probed_of f
+probed-lowest (At i second) = refl
+probed-lowest Nothing = refl
+
+pub returns : goal.returns
+returns c = c.probed.ensures ∙ ap probed_at c.lowest.ensures ∙ probed-lowest (found_in c.args.sought c.args.t)

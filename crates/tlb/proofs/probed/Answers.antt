@@ -1,0 +1,6 @@
+-- `tlb::probed` meets its contract, by cases.
+use borrow.Author.Rules.{rules}
+use Rattle.tlb.proofs.probed.Goals as goal
+
+pub returns-in-At : goal.returns-in-At
+returns-in-At c = rw c.found-1.given.1

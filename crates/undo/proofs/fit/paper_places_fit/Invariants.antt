@@ -1,0 +1,12 @@
+-- `undo::fit::paper_places_fit` meets its contract. The invariant: `ok` says whether the places passed are there.
+use Rattle.std.proofs.Common.{◌≡◌, ◌-◌, ◌≤◌, refl, add-one, arith}
+use Rattle.word.specs.Lists.{every}
+use Rattle.undo.specs.Fit.{paper_place_fits, paper_places_fit}
+use Rattle.undo.proofs.Laws.{eighth_small}
+use Rattle.undo.proofs.fit.paper_places_fit.Given as goal
+
+abbrev pub invariant-loop-n : goal.invariant-loop-n
+invariant-loop-n l = (l.n ≤ 8) × (l.ok ≡ every l.n (paper_place_fits l.mask l.printers l.paper))
+
+abbrev pub decreases-loop-n : goal.decreases-loop-n
+decreases-loop-n l = 8 - l.n
