@@ -11,4 +11,4 @@ unfolding twice_of
 returns c =
     let a = c.args in
     c.meets_two.ensures
-    ∙ ap (λ (m : Mode). meets_two m (record { kind = a.kind; width = a.width }) a.va a.rows a.cp0.entry_hi) c.Mode-of.ensures
+    ∙ ap (λ (m : Mode). meets_two m (record { kind = a.kind; width = a.width }) a.va a.rows a.cp0.entry_hi) c.mode_of.ensures

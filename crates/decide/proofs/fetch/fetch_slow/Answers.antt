@@ -15,7 +15,7 @@ word_in-requires c =
     let start = sized in
     let a = start.args in
     let answer =
-    reached_in_parts Fetch Four a.core.cp0-1 a.rows _ a.core.pc before.Mode-of.ensures before.physical-to.ensures landed.landed-answer.ensures in
+    reached_in_parts Fetch Four a.core.cp0-1 a.rows _ a.core.pc before.mode_of.ensures before.physical-to.ensures landed.landed-answer.ensures in
     reached_room _ start.requires _ _ _ _ _ sized.sizes-lent.ensures answer c.answer-1.given.1
 
 pub returns-in-Lands : goal.returns-in-Lands
@@ -27,7 +27,7 @@ returns-in-Lands c =
     let start = sized in
     let a = start.args in
     let answer =
-    reached_in_parts Fetch Four a.core.cp0-1 a.rows _ a.core.pc before.Mode-of.ensures before.physical-to.ensures landed.landed-answer.ensures in
+    reached_in_parts Fetch Four a.core.cp0-1 a.rows _ a.core.pc before.mode_of.ensures before.physical-to.ensures landed.landed-answer.ensures in
     rw (← sized.sizes-lent.ensures, ← answer, c.answer-1.given.1, c.word_in.ensures)
 
 pub returns-in-Exception : goal.returns-in-Exception
@@ -39,5 +39,5 @@ returns-in-Exception c =
     let start = sized in
     let a = start.args in
     let answer =
-    reached_in_parts Fetch Four a.core.cp0-1 a.rows _ a.core.pc before.Mode-of.ensures before.physical-to.ensures landed.landed-answer.ensures in
+    reached_in_parts Fetch Four a.core.cp0-1 a.rows _ a.core.pc before.mode_of.ensures before.physical-to.ensures landed.landed-answer.ensures in
     rw (← sized.sizes-lent.ensures, ← answer, c.answer-in-Exception-1.given.1)

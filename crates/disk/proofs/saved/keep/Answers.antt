@@ -51,7 +51,7 @@ overflow_sub-at c = let f = write-fits c in omega arith
 pub four_at-word-requires-then-writes : goal.four_at-word-requires-then-writes
 four_at-word-requires-then-writes c =
     let f = write-fits c in
-    let e = c.Block-of.ensures.place_is in
+    let e = c.block_of.ensures.place_is in
     omega arith
 
 pub returns-then-writes : goal.returns-then-writes
@@ -59,7 +59,7 @@ returns-then-writes c =
     let a = c.args in
     let on = sym c.writes.ensures ∙ c.if-writes.true in
     c.work_kept-then-writes.ensures
-    ∙ ap (λ (f : Four). work_kept 3 0 f a.d) (c.four_at-word-then-writes.ensures ∙ ap (λ (b : ℕ). four_at a.bytes.now (b + offset_of a.d)) c.Block-of.ensures.place_is)
+    ∙ ap (λ (f : Four). work_kept 3 0 f a.d) (c.four_at-word-then-writes.ensures ∙ ap (λ (b : ℕ). four_at a.bytes.now (b + offset_of a.d)) c.block_of.ensures.place_is)
     ∙ sym (written_kept a.d a.ram.now a.bytes.now on)
 
 pub returns : goal.returns

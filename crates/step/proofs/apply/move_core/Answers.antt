@@ -33,7 +33,7 @@ pub returns-in-DeviceLoad : goal.returns-in-DeviceLoad
 returns-in-DeviceLoad c = rw c.enum_told-in-DeviceLoad-1.given.1
 
 pub returns-in-DeviceStore : goal.returns-in-DeviceStore
-returns-in-DeviceStore c = rw c.effect-in-DeviceStore-1.given.1 (put_back c.put_core-in-DeviceStore.ensures ∙ c.Stored-lines.ensures ∙ rw c.core_in-c.ensures)
+returns-in-DeviceStore c = rw c.effect-in-DeviceStore-1.given.1 (put_back c.put_core-in-DeviceStore.ensures ∙ c.stored_lines.ensures ∙ rw c.core_in-c.ensures)
 
 pub returns-in-Raise : goal.returns-in-Raise
 returns-in-Raise c =

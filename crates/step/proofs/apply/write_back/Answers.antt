@@ -19,7 +19,7 @@ pub returns-in-DeviceLoad : goal.returns-in-DeviceLoad
 returns-in-DeviceLoad c = rw (c.effect-in-DeviceLoad-1.given.1, c.device_word.ensures) (refl, refl)
 
 pub returns-in-Ram : goal.returns-in-Ram
-returns-in-Ram c = rw c.effect-in-Ram-1.given.1 (refl, c.Store-word.ensures)
+returns-in-Ram c = rw c.effect-in-Ram-1.given.1 (refl, c.store_word.ensures)
 
 pub returns-in-Nothing : goal.returns-in-Nothing
 returns-in-Nothing c = rw c.enum_told-1.given.1 (refl, refl)

@@ -12,4 +12,4 @@ store_word-requires c =
 
 pub returns-in-RamWord : goal.returns-in-RamWord
 returns-in-RamWord c = let s = c.s-1.given.1 in
-    rw s (c.Store-word.ensures ∙ stored_sets 4 _ _ _ (leb-true _ _ (rw s at c.requires)))
+    rw s (c.store_word.ensures ∙ stored_sets 4 _ _ _ (leb-true _ _ (rw s at c.requires)))
