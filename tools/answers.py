@@ -19,7 +19,8 @@ WORD = r"[^\s(){}\[\].,;:λ]+"
 
 
 def alike(name):
-    name = re.sub(r"^overflow[-_]", "", name)
+    name = re.sub(r"^(overflow|nonzero)[-_]", "", name)
+    name = re.sub(r"^slice[-_]bounds-", "part-", name)
     name = name.replace("_", "-")
     return name
 
@@ -65,66 +66,106 @@ def blocks(text):
 
 
 class Turn:
-    def __init__(self, crate, path, made):
-        self.crate, self.path, self.made = crate, path, made
-        self.needs = {}
-        for old, new in made["needs"]:
+    """The names of one function: of its goals, and of the steps on the way to each of its places."""
+
+    def __init__(self, made):
+        self.made, self.notes = made, []
+        self.needs, self.asked = {}, {}
+        for (old, new), (place, _) in zip(made["needs"], made["asked_at"]):
             self.needs.setdefault(alike(old), new)
-        self.steps, self.calls = {}, {}
-        for place in made["places"]:
-            old, new = place[2]
+            self.asked.setdefault(new, place)
+        self.place = {it[0]: k for k, it in enumerate(made["places"])}
+        self.calls = {}
+        for it in made["places"]:
+            if it[3]:
+                self.calls[it[2][1]] = made["params"].get(it[3], [])
+        self.loops = {alike(old): new for (old, new), _ in made["loops"]}
+
+    def on_way(self, place):
+        """The places from this one back to the start, or all, the last first."""
+        if place is None:
+            return list(range(len(self.made["places"]) - 1, -1, -1))
+        out = []
+        while place is not None:
+            k = self.place[place]
+            out.append(k)
+            place = self.made["places"][k][1]
+        return out
+
+    def rules(self, place):
+        to = {}
+        for k in self.on_way(place):
+            arm = self.made["arms"][k]
+            if arm:
+                for field, step, path in arm[2]:
+                    to.setdefault((alike(step), *path), [arm[0], field])
+            for var, step in self.made["typed"][k]:
+                to.setdefault((alike(step), "given"), ["type_inv", var])
+            old, new = self.made["places"][k][2]
             if old:
-                self.steps.setdefault(alike(old), new)
-                if place[3]:
-                    self.calls[new] = made["params"].get(place[3], [])
-        for (old, new), _ in made["loops"]:
-            self.steps.setdefault(alike(old), new)
-        self.notes = []
+                to.setdefault((alike(old),), [new])
+        for old, new in self.loops.items():
+            to.setdefault((old,), [new])
+        return to
 
-    def field(self, name):
-        return self.steps.get(alike(name))
-
-    def fields(self, text, plain):
-        """Renames each step in the chains of fields of a text."""
+    def chains(self, text, to, plain, bound):
+        """Renames each step in the chains of fields of a text, and each place by number after a call."""
 
         def chain(m):
             parts = m[0].split(".")
-            for k in range(1, len(parts)):
+            out = [parts[0]]
+            k = 1
+            while k < len(parts):
                 above = parts[k - 1]
                 own = above in FIELDS or re.match(r"loop(-|\d|$)", above) or (k == 1 and above in plain)
-                to = self.field(parts[k])
-                if to and not own and parts[k] not in FIELDS:
-                    parts[k] = to
-            return ".".join(parts)
+                found = None
+                if not own and parts[k] not in FIELDS:
+                    for n in (3, 2, 1, 0):
+                        key = (alike(parts[k]), *parts[k + 1: k + 1 + n])
+                        if len(key) == n + 1 and key in to:
+                            found = to[key]
+                            k += n + 1
+                            break
+                if found:
+                    out += found
+                    continue
+                if parts[k] in ("new", "last", "auto") and k + 1 < len(parts) and parts[k + 1] in "01":
+                    n = k + 1
+                    while n < len(parts) and parts[n] == "1":
+                        n += 1
+                    params = self.calls.get(bound.get(out[-1], out[-1]))
+                    at = n - k - 1
+                    if n < len(parts) and parts[n] == "0" and params and at < len(params):
+                        out += ["new" if parts[k] == "last" else parts[k], params[at]]
+                        k = n + 1
+                        continue
+                    self.notes.append(f"a place by number: {m[0]}")
+                out.append(parts[k])
+                k += 1
+            return ".".join(out)
 
         return re.sub(r"(?:" + WORD + r"|(?<=\)))(?:\." + WORD + r")+", chain, text)
 
-    def body(self, text):
+    def body(self, text, place=None):
         text = re.sub(r"\.before(?![\w-])", "", text)
         text = re.sub(r"\.inv(?![\w-])", ".invariant", text)
         text = re.sub(r"\.pre(?![\w-])", ".requires", text)
-
         # the names bound to a step's values, whose fields are not steps
         plain = set(re.findall(r"let (" + WORD + r") = [^\n]*\.(?:args|new|auto|last|loop\d*|now|result) in\b", text))
-
-        # each field after another one is looked at too
-        text = self.fields(text, plain)
+        to = self.rules(place)
         bound = {}
         for m in re.finditer(r"let (" + WORD + r") = [^\n]*\.(" + WORD + r") in\b", text):
-            if m[2] in self.calls:
-                bound[m[1]] = m[2]
-
-        def chain(m):
-            call = m[1] if m[1] in self.calls else bound.get(m[1])
-            params = self.calls.get(call)
-            k = m[3].count(".1")
-            if params and k < len(params):
-                word = "new" if m[2] == "last" else m[2]
-                return f"{m[1]}.{word}.{params[k]}"
-            self.notes.append(f"a place by number: {m[0]}")
-            return m[0]
-
-        return re.sub(r"(" + WORD + r")\.(new|last|auto)((?:\.1)*\.0)(?![\w])", chain, text)
+            new = to.get((alike(m[2]),), [""])[0]
+            if new in self.calls:
+                bound[m[1]] = new
+        text = self.chains(text, to, plain, bound)
+        for old, new in self.made["args"]:
+            old, new = old.replace(" ", ""), new.replace(" ", "")
+            text = re.sub(re.escape(old) + r"(?![\w'-])", new, text)
+            if old.startswith(".args."):
+                for name in plain:
+                    text = re.sub(r"(?<![\w.'-])" + re.escape(name) + re.escape(old[5:]) + r"(?![\w'-])", name + new[5:], text)
+        return text
 
 
 def invariant(turn, block, made):
@@ -132,7 +173,7 @@ def invariant(turn, block, made):
     m = re.search(r"(?m)^abbrev (?:pub )?((?:invariant|decreases)-(" + WORD + r")) : [^\n]*\n((?:unfolding [^\n]*\n)?)\1 ([^=]*?)=(?=\s)((?:.|\n)*)", block)
     if not m:
         return None
-    loop = turn.steps.get(alike(m[2]))
+    loop = turn.loops.get(alike(m[2]))
     found = [(names, vs, made["changed"][k]) for k, (names, vs) in enumerate(made["loops"]) if names[1] == loop]
     if not found:
         turn.notes.append(f"no loop {m[2]}")
@@ -175,7 +216,7 @@ def turn_file(crate, folder, names, keep_all):
         print(f"left: {path}: {key} is not among the names")
         return 1
     made = names[key]
-    turn = Turn(crate, folder, made)
+    turn = Turn(made)
     module = f"Rattle.{crate}.proofs.{folder.replace('/', '.')}"
     uses, answers, loops, left, first = [], [], [], [], ""
     for block in blocks(text):
@@ -215,7 +256,7 @@ def turn_file(crate, folder, names, keep_all):
                 continue
             if any(a[0] == new for a in answers):
                 turn.notes.append(f"{new} would be answered twice")
-            answers.append((new, comment + "\n" * bool(comment) + f"pub {new} : goal.{new}\n{m[3]}{new} {' '.join(params)} ={turn.body(body)}"))
+            answers.append((new, comment + "\n" * bool(comment) + f"pub {new} : goal.{new}\n{m[3]}{new} {' '.join(params)} ={turn.body(body, turn.asked[new])}"))
             continue
         answers.append((None, turn.body(block)))
     head = (first + "\n") if first else ""

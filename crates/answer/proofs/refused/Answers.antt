@@ -4,7 +4,7 @@ use borrow.Author.Rules.{rules}
 use Rattle.answer.proofs.refused.Goals as goal
 
 pub returns-in-Done : goal.returns-in-Done
-returns-in-Done c = rw c.enum_told-1.given.1 refl
+returns-in-Done c = rw c.in-Done.is refl
 
 pub returns-in-Refused : goal.returns-in-Refused
-returns-in-Refused c = rw c.answer-1.given.1 c.refusal_number.ensures
+returns-in-Refused c = rw c.in-Refused.is c.refusal_number.ensures

@@ -5,14 +5,14 @@ use borrow.Author.Rules.{rules}
 use Rattle.backward.proofs.take_back.Goals as goal
 
 pub with_image-requires : goal.with_image-requires
-with_image-requires c = sym c.buffers_test-test.ensures ∙ c.enum_told-1.given.1
+with_image-requires c = sym c.buffers_test-test.ensures ∙ c.in-Passed.is
 
 pub returns-in-Failed : goal.returns-in-Failed
 unfolding back_leaves
-returns-in-Failed c = rw (sym c.buffers_test-test.ensures ∙ c.test-1.given.1)
+returns-in-Failed c = rw (sym c.buffers_test-test.ensures ∙ c.in-Failed.is)
 
 pub returns-in-Passed : goal.returns-in-Passed
 unfolding back_leaves
 returns-in-Passed c =
     let rest = c in
-    rw (sym rest.buffers_test-test.ensures ∙ rest.enum_told-1.given.1) rest.with_image.ensures
+    rw (sym rest.buffers_test-test.ensures ∙ rest.in-Passed.is) rest.with_image.ensures

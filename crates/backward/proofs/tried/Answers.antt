@@ -21,7 +21,7 @@ returns-then-not-index_fits c =
     let told = c in
     let asked = told in
     let start = asked in
-    tried_index (lent start) start.args.steps start.requires.0 (ap how_of (sym told.enum_told-in-Done-1.given.1) ∙ asked.asked.ensures)
+    tried_index (lent start) start.args.steps start.requires.0 (ap how_of (sym told.in-Done.is) ∙ asked.asked.ensures)
     (sym c.index_fits.ensures ∙ not-true _ c.if-not-index_fits.true)
 
 pub done-requires : goal.done-requires
@@ -31,19 +31,19 @@ done-requires c =
     let asked = told in
     let start = asked in
     let fits = fits_back (lent start).beside start.requires.1.1 (sym left.index_fits.ensures ∙ not-false _ left.if-not-index_fits.false) in
-    (start.requires.0, (start.requires.1.0, (fits, sym asked.asked.ensures ∙ ap how_of told.enum_told-in-Done-1.given.1)))
+    (start.requires.0, (start.requires.1.0, (fits, sym asked.asked.ensures ∙ ap how_of told.in-Done.is)))
 
 pub returns-in-TooFar : goal.returns-in-TooFar
 returns-in-TooFar c =
     let asked = c in
     let start = asked in
-    tried_far (lent start) start.args.steps start.requires.0 (ap how_of (sym c.enum_told-1.given.1) ∙ asked.asked.ensures)
+    tried_far (lent start) start.args.steps start.requires.0 (ap how_of (sym c.in-TooFar.is) ∙ asked.asked.ensures)
 
 pub returns-in-Bad : goal.returns-in-Bad
 returns-in-Bad c =
     let asked = c in
     let start = asked in
-    tried_bad (lent start) start.args.steps start.requires.0 (ap how_of (sym c.enum_told-in-Bad-1.given.1) ∙ asked.asked.ensures)
+    tried_bad (lent start) start.args.steps start.requires.0 (ap how_of (sym c.in-Bad.is) ∙ asked.asked.ensures)
 
 pub returns-else-not-index_fits : goal.returns-else-not-index_fits
 returns-else-not-index_fits c = c.done.ensures

@@ -7,15 +7,15 @@ use Rattle.forward.proofs.run.Goals as goal
 pub with_image-requires : goal.with_image-requires
 with_image-requires c =
     let told = c in
-    sym told.lent_test-test.ensures ∙ told.enum_told-1.given.1
+    sym told.lent_test-test.ensures ∙ told.in-Passed.is
 
 pub returns-in-Failed : goal.returns-in-Failed
 unfolding run_leaves
-returns-in-Failed c = rw (sym c.lent_test-test.ensures ∙ c.test-1.given.1)
+returns-in-Failed c = rw (sym c.lent_test-test.ensures ∙ c.in-Failed.is)
 
 pub returns-in-Passed : goal.returns-in-Passed
 unfolding run_leaves
 returns-in-Passed c =
     let left = c in
     let told = left in
-    rw (sym told.lent_test-test.ensures ∙ told.enum_told-1.given.1) left.with_image.ensures
+    rw (sym told.lent_test-test.ensures ∙ told.in-Passed.is) left.with_image.ensures

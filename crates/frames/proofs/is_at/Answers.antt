@@ -3,4 +3,4 @@ use Rattle.std.proofs.Common.{rules}
 use Rattle.frames.proofs.is_at.Goals as goal
 
 pub returns-in-At : goal.returns-in-At
-returns-in-At c = rw c.e-1.given.1
+returns-in-At c = rw c.in-At.is

@@ -5,11 +5,11 @@ use Rattle.lastwrite.proofs.Answers.{counted_at, words_at}
 use Rattle.lastwrite.proofs.answer_words.Goals as goal
 
 pub overflow_sub-k : goal.overflow_sub-k
-overflow_sub-k c = omega (arith, counted_at c.found-1.given.1 c.requires)
+overflow_sub-k c = omega (arith, counted_at c.in-At.is c.requires)
 
 pub returns-in-At : goal.returns-in-At
 returns-in-At c =
     let known = c in
     let time = known.args.time in
-    rw known.found-1.given.1
+    rw known.in-At.is
     (words_at time _ _ _ _ (wraps_back c.wrapping_sub_u64-clock.result time _ (omega arith) (omega arith) c.wrapping_sub_u64-clock.ensures))

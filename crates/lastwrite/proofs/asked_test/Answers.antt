@@ -20,13 +20,13 @@ pub returns-in-TooFar : goal.returns-in-TooFar
 returns-in-TooFar c =
     let asked = c in
     let start = asked in
-    absurd (never_far start.args.machine (lent start) (ap how_of (sym c.enum_told-1.given.1) ∙ asked.asked.ensures))
+    absurd (never_far start.args.machine (lent start) (ap how_of (sym c.in-TooFar.is) ∙ asked.asked.ensures))
 
 pub returns-in-Bad : goal.returns-in-Bad
 returns-in-Bad c =
     let asked = c in
     let start = asked in
-    asked_bad start.args.machine (lent start) start.args.address start.args.room (ap how_of (sym c.enum_told-in-Bad-1.given.1) ∙ asked.asked.ensures)
+    asked_bad start.args.machine (lent start) start.args.address start.args.room (ap how_of (sym c.in-Bad.is) ∙ asked.asked.ensures)
 
 pub returns-in-Done : goal.returns-in-Done
 returns-in-Done c =
@@ -34,4 +34,4 @@ returns-in-Done c =
     let asked = told in
     let start = asked in
     c.rest_test.ensures
-    ∙ asked_rest start.args.machine (lent start) start.args.address start.args.room (ap how_of (sym told.enum_told-in-Done-1.given.1) ∙ asked.asked.ensures)
+    ∙ asked_rest start.args.machine (lent start) start.args.address start.args.room (ap how_of (sym told.in-Done.is) ∙ asked.asked.ensures)

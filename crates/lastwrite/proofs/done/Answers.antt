@@ -3,7 +3,7 @@ use Rattle.std.proofs.Common.{rules}
 use Rattle.lastwrite.proofs.done.Goals as goal
 
 pub returns-in-Nothing : goal.returns-in-Nothing
-returns-in-Nothing c = rw c.enum_told-1.given.1
+returns-in-Nothing c = rw c.in-Nothing.is
 
 pub returns-in-At : goal.returns-in-At
-returns-in-At c = rw c.found-1.given.1
+returns-in-At c = rw c.in-At.is

@@ -11,13 +11,13 @@ lent s =
     buffers_back a.image.now a.ram.now a.paper.now a.journal.now a.index.now
 
 pub with_image-requires : goal.with_image-requires
-with_image-requires c = sym c.buffers_test-test.ensures ∙ c.enum_told-1.given.1
+with_image-requires c = sym c.buffers_test-test.ensures ∙ c.in-Passed.is
 
 pub returns-in-Failed : goal.returns-in-Failed
 returns-in-Failed c =
     let tested = c in
     let start = tested in
-    buffers_failed (lent start) start.args.address start.args.answer.now (sym tested.buffers_test-test.ensures ∙ c.test-1.given.1)
+    buffers_failed (lent start) start.args.address start.args.answer.now (sym tested.buffers_test-test.ensures ∙ c.in-Failed.is)
 
 pub returns-in-Passed : goal.returns-in-Passed
 returns-in-Passed c =
@@ -25,4 +25,4 @@ returns-in-Passed c =
     let told = ruled in
     let tested = told in
     let start = tested in
-    buffers_passed (lent start) start.args.address start.args.answer.now (sym tested.buffers_test-test.ensures ∙ told.enum_told-1.given.1) ruled.with_image.ensures
+    buffers_passed (lent start) start.args.address start.args.answer.now (sym tested.buffers_test-test.ensures ∙ told.in-Passed.is) ruled.with_image.ensures

@@ -19,7 +19,7 @@ found_by-requires c =
     let told = c in
     let asked = told in
     let start = asked in
-    asked_near start.args.machine (lent start) start.args.address _ start.requires (sym asked.asked_test-test.ensures ∙ told.enum_told-1.given.1)
+    asked_near start.args.machine (lent start) start.args.address _ start.requires (sym asked.asked_test-test.ensures ∙ told.in-Passed.is)
 
 pub put_found-requires : goal.put_found-requires
 put_found-requires c =
@@ -29,11 +29,11 @@ put_found-requires c =
     let start = asked in
     let a = start.args in (
       subst Counted (sym found.found_by.ensures) (found_counted a.machine a.ram.now a.journal.now a.address),
-      asked_room a.machine (lent start) a.address _ (sym asked.asked_test-test.ensures ∙ told.enum_told-1.given.1),
+      asked_room a.machine (lent start) a.address _ (sym asked.asked_test-test.ensures ∙ told.in-Passed.is),
     )
 
 pub returns-in-Failed : goal.returns-in-Failed
-returns-in-Failed c = leaves_all _ _ _ (sym c.asked_test-test.ensures ∙ c.test-1.given.1)
+returns-in-Failed c = leaves_all _ _ _ (sym c.asked_test-test.ensures ∙ c.in-Failed.is)
 
 pub returns-in-Passed : goal.returns-in-Passed
 returns-in-Passed c =
@@ -42,4 +42,4 @@ returns-in-Passed c =
     let timed = found in
     let told = timed in
     let asked = told in
-    leaves_same (sym (sym asked.asked_test-test.ensures ∙ told.enum_told-1.given.1)) timed.time.ensures found.found_by.ensures put.put_found.ensures
+    leaves_same (sym (sym asked.asked_test-test.ensures ∙ told.in-Passed.is)) timed.time.ensures found.found_by.ensures put.put_found.ensures

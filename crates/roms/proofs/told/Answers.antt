@@ -3,10 +3,10 @@ use borrow.Author.Rules.{rules}
 use Rattle.roms.proofs.told.Goals as goal
 
 pub returns-in-Done : goal.returns-in-Done
-returns-in-Done c = rw c.enum_told-1.given.1
+returns-in-Done c = rw c.in-Done.is
 
 pub returns-in-BadRom : goal.returns-in-BadRom
-returns-in-BadRom c = rw c.enum_told-in-BadRom-1.given.1
+returns-in-BadRom c = rw c.in-BadRom.is
 
 pub returns-in-BadAddress : goal.returns-in-BadAddress
-returns-in-BadAddress c = rw c.enum_told-in-BadAddress-1.given.1
+returns-in-BadAddress c = rw c.in-BadAddress.is

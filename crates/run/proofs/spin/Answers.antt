@@ -232,7 +232,7 @@ start-after-requires c =
 pub follow-requires : goal.follow-requires
 follow-requires c =
     let h = head_of c in
-    ((whole-at h).ram-1.few, rw h.loop-settings.invariant.1 h.loop-settings.invariant.10)
+    ((whole-at h).ram.few, rw h.loop-settings.invariant.1 h.loop-settings.invariant.10)
 
 pub decide-d-requires : goal.decide-d-requires
 decide-d-requires c =
@@ -258,7 +258,7 @@ loop-settings-smaller-else-stop c = omega (arith, left-of c)
 pub loop-settings-preserved-else-stop : goal.loop-settings-preserved-else-stop
 loop-settings-preserved-else-stop c =
     let m = c in
-    again m c.enum_told-1.given.1 (head m).loop-settings.rows refl (head m).loop-settings.invariant.6 (looked m).looked-look.result.limit (goes_at m).next (pages_at m) (known_at m) (rw c.if-stop.false)
+    again m c.in-Raise.is (head m).loop-settings.rows refl (head m).loop-settings.invariant.6 (looked m).looked-look.result.limit (goes_at m).next (pages_at m) (known_at m) (rw c.if-stop.false)
 
 pub loop-settings-smaller-in-TlbRow : goal.loop-settings-smaller-in-TlbRow
 loop-settings-smaller-in-TlbRow c = omega (arith, left-of c)
@@ -269,7 +269,7 @@ loop-settings-preserved-in-TlbRow c =
     let known = wrote in
     let m = known in
     let rows = (head m).loop-settings.rows in
-    let told = known.effect-1.given.1 in
+    let told = known.in-TlbRow.is in
     let few = rw (← (head m).loop-settings.invariant.6) at (turns.in_rows _ 16 told (within-at (decided m))) in
     let left = left-of m in
     onward m told wrote.write-written.result (sym (wrote.write-written.ensures ∙ written_row rows _ few _))
@@ -280,49 +280,49 @@ pub loop-settings-smaller-in-Nothing : goal.loop-settings-smaller-in-Nothing
 loop-settings-smaller-in-Nothing c = omega (arith, left-of c)
 
 pub loop-settings-preserved-in-Nothing : goal.loop-settings-preserved-in-Nothing
-loop-settings-preserved-in-Nothing c = stays c c.enum_told-in-Nothing-1.given.1 refl refl
+loop-settings-preserved-in-Nothing c = stays c c.in-Nothing.is refl refl
 
 pub loop-settings-smaller-in-Register : goal.loop-settings-smaller-in-Register
 loop-settings-smaller-in-Register c = omega (arith, left-of c)
 
 pub loop-settings-preserved-in-Register : goal.loop-settings-preserved-in-Register
-loop-settings-preserved-in-Register c = stays c c.enum_told-in-Register-1.given.1 refl refl
+loop-settings-preserved-in-Register c = stays c c.in-Register.is refl refl
 
 pub loop-settings-smaller-in-HiLo : goal.loop-settings-smaller-in-HiLo
 loop-settings-smaller-in-HiLo c = omega (arith, left-of c)
 
 pub loop-settings-preserved-in-HiLo : goal.loop-settings-preserved-in-HiLo
-loop-settings-preserved-in-HiLo c = stays c c.enum_told-in-HiLo-1.given.1 refl refl
+loop-settings-preserved-in-HiLo c = stays c c.in-HiLo.is refl refl
 
 pub loop-settings-smaller-in-Control : goal.loop-settings-smaller-in-Control
 loop-settings-smaller-in-Control c = omega (arith, left-of c)
 
 pub loop-settings-preserved-in-Control : goal.loop-settings-preserved-in-Control
-loop-settings-preserved-in-Control c = stays c c.enum_told-in-Control-1.given.1 refl refl
+loop-settings-preserved-in-Control c = stays c c.in-Control.is refl refl
 
 pub loop-settings-smaller-in-Entry : goal.loop-settings-smaller-in-Entry
 loop-settings-smaller-in-Entry c = omega (arith, left-of c)
 
 pub loop-settings-preserved-in-Entry : goal.loop-settings-preserved-in-Entry
-loop-settings-preserved-in-Entry c = stays c c.enum_told-in-Entry-1.given.1 refl refl
+loop-settings-preserved-in-Entry c = stays c c.in-Entry.is refl refl
 
 pub loop-settings-smaller-in-Ram : goal.loop-settings-smaller-in-Ram
 loop-settings-smaller-in-Ram c = omega (arith, left-of c)
 
 pub loop-settings-preserved-in-Ram : goal.loop-settings-preserved-in-Ram
-loop-settings-preserved-in-Ram c = stays c c.enum_told-in-Ram-1.given.1 refl refl
+loop-settings-preserved-in-Ram c = stays c c.in-Ram.is refl refl
 
 pub loop-settings-smaller-in-DeviceLoad : goal.loop-settings-smaller-in-DeviceLoad
 loop-settings-smaller-in-DeviceLoad c = omega (arith, left-of c)
 
 pub loop-settings-preserved-in-DeviceLoad : goal.loop-settings-preserved-in-DeviceLoad
-loop-settings-preserved-in-DeviceLoad c = stays c c.enum_told-in-DeviceLoad-1.given.1 refl refl
+loop-settings-preserved-in-DeviceLoad c = stays c c.in-DeviceLoad.is refl refl
 
 pub loop-settings-smaller : goal.loop-settings-smaller
 loop-settings-smaller c = omega (arith, left-of c)
 
 pub loop-settings-preserved : goal.loop-settings-preserved
-loop-settings-preserved c = stays c c.enum_told-in-DeviceStore-1.given.1 refl refl
+loop-settings-preserved c = stays c c.in-DeviceStore.is refl refl
 
 pub shape_of-ram-then-look : goal.shape_of-ram-then-look
 shape_of-ram-then-look c = (head_of c).loop-settings.invariant.1
@@ -359,4 +359,4 @@ shape_of-index-then-stop c = let m = c in index-long m ∙ (head m).loop-setting
 pub returns-then-stop : goal.returns-then-stop
 returns-then-stop c =
     let m = c in
-    sym (ends m c.enum_told-1.given.1 (head m).loop-settings.rows refl (head m).loop-settings.invariant.6 (looked m).looked-look.result.limit (goes_at m).next (pages_at m) (known_at m) (rw c.if-stop.true))
+    sym (ends m c.in-Raise.is (head m).loop-settings.rows refl (head m).loop-settings.invariant.6 (looked m).looked-look.result.limit (goes_at m).next (pages_at m) (known_at m) (rw c.if-stop.true))

@@ -3,4 +3,4 @@ use borrow.Author.Rules.{rules}
 use Rattle.sought.proofs.numbers.Goals as goal
 
 pub returns-in-At : goal.returns-in-At
-returns-in-At c = rw c.s-1.given.1
+returns-in-At c = rw c.in-At.is

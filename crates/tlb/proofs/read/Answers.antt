@@ -5,4 +5,4 @@ use borrow.Author.Rules.{rules}
 use Rattle.tlb.proofs.read.Goals as goal
 
 pub returns : goal.returns
-returns c = let sixteen : length c.args.t1 ≡ 16 = search rules in rw sixteen
+returns c = let sixteen : length c.args.t ≡ 16 = search rules in rw sixteen

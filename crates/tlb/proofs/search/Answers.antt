@@ -10,7 +10,7 @@ use Rattle.tlb.proofs.Steps.{past_end, one_down}
 use Rattle.tlb.proofs.search.Goals as goal
 
 pub loop-i-init : goal.loop-i-init
-loop-i-init c = (omega arith, sym (past_end (matches_of c.args.sought) c.args.t1 16 (search rules)))
+loop-i-init c = (omega arith, sym (past_end (matches_of c.args.sought) c.args.t 16 (search rules)))
 
 pub loop-i-preserved : goal.loop-i-preserved
 loop-i-preserved c =
@@ -20,4 +20,4 @@ loop-i-preserved c =
 pub returns : goal.returns
 returns c =
     let a = c.args in
-    c.loop-i.invariant.1 ∙ ap (λ (k : ℕ). first_from (matches_of a.sought) k (drop k a.t1)) c.if-i-eq0.true
+    c.loop-i.invariant.1 ∙ ap (λ (k : ℕ). first_from (matches_of a.sought) k (drop k a.t)) c.if-i-eq0.true

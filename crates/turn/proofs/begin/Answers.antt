@@ -12,7 +12,7 @@ pub returns-then-journal-lt-SLOT : goal.returns-then-journal-lt-SLOT
 returns-then-journal-lt-SLOT c =
     let a = c.args in
     let kept = saved_paper_of (printers_in a.words.now) a.paper.now in
-    sym (not_begun a.mark (held_record a.core.now a.held.clock-1.timer a.held.pending kept a.words.now) a.journal.now c.if-journal-lt-SLOT.true)
+    sym (not_begun a.mark (held_record a.core.now a.held.clock.timer a.held.pending kept a.words.now) a.journal.now c.if-journal-lt-SLOT.true)
 
 pub kept_paper-kept-requires : goal.kept_paper-kept-requires
 kept_paper-kept-requires c = c.requires.1.1

@@ -6,15 +6,15 @@ use Rattle.alu.proofs.merge.lwr.Goals as goal
 
 pub returns-in-0 : goal.returns-in-0
 unfolding to_bytes
-returns-in-0 c = rw (c.in-0.keys1, joined 4 0 c.args.word (c.args.register / 256 / 256 / 256 / 256)) (omega arith)
+returns-in-0 c = rw (c.in-0.is, joined 4 0 c.args.word (c.args.register / 256 / 256 / 256 / 256)) (omega arith)
 
 pub returns-in-1 : goal.returns-in-1
 unfolding to_bytes
-returns-in-1 c = rw (c.in-0.keys2, joined 3 1 (c.args.word / 256) (c.args.register / 256 / 256 / 256)) (omega arith)
+returns-in-1 c = rw (c.in-1.is, joined 3 1 (c.args.word / 256) (c.args.register / 256 / 256 / 256)) (omega arith)
 
 pub returns-in-2 : goal.returns-in-2
 unfolding to_bytes
-returns-in-2 c = rw (c.in-0.keys3, joined 2 2 (c.args.word / 256 / 256) (c.args.register / 256 / 256)) (omega arith)
+returns-in-2 c = rw (c.in-2.is, joined 2 2 (c.args.word / 256 / 256) (c.args.register / 256 / 256)) (omega arith)
 
 pub returns-in_default : goal.returns-in_default
 unfolding to_bytes

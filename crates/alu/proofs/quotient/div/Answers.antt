@@ -12,6 +12,12 @@ divisor c =
     let all = c in
     rw c.taken_apart-b.ensures.1 (size_of_nonzero (2 ^ 31) all.args.y (omega arith) all.ranges.y.fits)
 
+pub nonzero_rem-a : goal.nonzero_rem-a
+nonzero_rem-a c = divisor c
+
+pub nonzero_div-a : goal.nonzero_div-a
+nonzero_div-a c = divisor c
+
 pub returns : goal.returns
 returns c =
     let q = c in

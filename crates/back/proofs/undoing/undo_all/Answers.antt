@@ -29,7 +29,7 @@ undo_slot-before-requires c =
     let start = turn in (
       search rules,
       (
-        omega (arith, inv.index-1, start.requires.1.1.0),
+        omega (arith, inv.index, start.requires.1.1.0),
         undoing_tells inv turn.loop-j-test.true slot.slot_back-at.result slot.slot_back-at.ensures.0 start.requires.1.1.1,
       ),
     )
@@ -56,13 +56,13 @@ loop-j-preserved c =
     )
 
 pub shape_of-ram : goal.shape_of-ram
-shape_of-ram c = c.loop-j.invariant.0.ram-1
+shape_of-ram c = c.loop-j.invariant.0.ram
 
 pub shape_of-paper : goal.shape_of-paper
-shape_of-paper c = c.loop-j.invariant.0.paper-1
+shape_of-paper c = c.loop-j.invariant.0.paper
 
 pub shape_of-index : goal.shape_of-index
-shape_of-index c = c.loop-j.invariant.0.index-1
+shape_of-index c = c.loop-j.invariant.0.index
 
 pub returns : goal.returns
 returns c =

@@ -5,15 +5,15 @@ use borrow.Author.Rules.{rules}
 use Rattle.board.proofs.rom.rom_window.Goals as goal
 
 pub from_rom-requires : goal.from_rom-requires
-from_rom-requires c = sym c.rom_answer.ensures ∙ c.enum_told-1.given.1
+from_rom-requires c = sym c.rom_answer.ensures ∙ c.in-Done.is
 
 pub returns-in-Done : goal.returns-in-Done
 returns-in-Done c =
     c.from_rom.ensures
-    ∙ ap (part_of _ _ _) (sym c.enum_told-1.given.1 ∙ c.rom_answer.ensures)
+    ∙ ap (part_of _ _ _) (sym c.in-Done.is ∙ c.rom_answer.ensures)
 
 pub returns-in-BadRom : goal.returns-in-BadRom
-returns-in-BadRom c = ap (part_of _ _ _) (sym c.enum_told-in-BadRom-1.given.1 ∙ c.rom_answer.ensures)
+returns-in-BadRom c = ap (part_of _ _ _) (sym c.in-BadRom.is ∙ c.rom_answer.ensures)
 
 pub returns-in-BadAddress : goal.returns-in-BadAddress
-returns-in-BadAddress c = ap (part_of _ _ _) (sym c.enum_told-in-BadAddress-1.given.1 ∙ c.rom_answer.ensures)
+returns-in-BadAddress c = ap (part_of _ _ _) (sym c.in-BadAddress.is ∙ c.rom_answer.ensures)

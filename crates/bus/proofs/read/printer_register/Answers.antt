@@ -8,4 +8,4 @@ use borrow.Author.Rules.{rules}
 use Rattle.bus.proofs.read.printer_register.Goals as goal
 
 pub returns-in_default : goal.returns-in_default
-returns-in_default c = rw (rest (registers_of c.args.p) 0 0 (2 ∷ 1 ∷ 0 ∷ []) 4 0 refl _ (omega arith) (omega arith) c.in-0.rest)
+returns-in_default c = rw (rest (registers_of c.args.p) 0 0 (2 ∷ 1 ∷ 0 ∷ []) 4 0 refl _ (omega arith) (omega arith) c.in_default.in_default-own.rest)

@@ -22,6 +22,6 @@ pub returns : goal.returns
 unfolding bus_word_of
 returns c = let a = c.args in
     let ours = eq-eqb (line_of a.offset) 6 (sym c.line.ensures ∙ c.if-line-ne-PRINTERS.false) in
-    let same = ap (λ (n : ℕ). get_or (registers_of (get_or a.t2 n no_printer)) (field_of a.offset) 0) c.number-n.ensures in
+    let same = ap (λ (n : ℕ). get_or (registers_of (get_or a.printers n no_printer)) (field_of a.offset) 0) c.number-n.ensures in
     rw (le-leb _ _ c.if-offset-lt-DEVICES.false, ours)
     (c.printer_register.ensures ∙ rw c.field.ensures same)

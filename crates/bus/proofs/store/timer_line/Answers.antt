@@ -3,4 +3,4 @@ use borrow.Author.Rules.{rules}
 use Rattle.bus.proofs.store.timer_line.Goals as goal
 
 pub returns-in-Timer : goal.returns-in-Timer
-returns-in-Timer c = rw c.enum_told-1.given.1 c.with_line.ensures
+returns-in-Timer c = rw c.in-Timer.is c.with_line.ensures

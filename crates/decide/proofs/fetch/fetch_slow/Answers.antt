@@ -16,7 +16,7 @@ word_in-requires c =
     let a = start.args in
     let answer =
     reached_in_parts Fetch Four a.core.cp0-1 a.rows _ a.core.pc before.mode_of.ensures before.physical-to.ensures landed.landed-answer.ensures in
-    reached_room _ start.requires _ _ _ _ _ sized.sizes-lent.ensures answer c.answer-1.given.1
+    reached_room _ start.requires _ _ _ _ _ sized.sizes-lent.ensures answer c.in-Lands.is
 
 pub returns-in-Lands : goal.returns-in-Lands
 unfolding fetch_of
@@ -28,7 +28,7 @@ returns-in-Lands c =
     let a = start.args in
     let answer =
     reached_in_parts Fetch Four a.core.cp0-1 a.rows _ a.core.pc before.mode_of.ensures before.physical-to.ensures landed.landed-answer.ensures in
-    rw (← sized.sizes-lent.ensures, ← answer, c.answer-1.given.1, c.word_in.ensures)
+    rw (← sized.sizes-lent.ensures, ← answer, c.in-Lands.is, c.word_in.ensures)
 
 pub returns-in-Exception : goal.returns-in-Exception
 unfolding fetch_of
@@ -40,4 +40,4 @@ returns-in-Exception c =
     let a = start.args in
     let answer =
     reached_in_parts Fetch Four a.core.cp0-1 a.rows _ a.core.pc before.mode_of.ensures before.physical-to.ensures landed.landed-answer.ensures in
-    rw (← sized.sizes-lent.ensures, ← answer, c.answer-in-Exception-1.given.1)
+    rw (← sized.sizes-lent.ensures, ← answer, c.in-Exception.is)

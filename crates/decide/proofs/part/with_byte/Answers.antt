@@ -11,15 +11,15 @@ use Rattle.decide.proofs.part.with_byte.Goals as goal
 
 pub returns-in-0 : goal.returns-in-0
 unfolding with_bytes stored_at to_bytes
-returns-in-0 c = rw (c.in-0.keys1, three 0 1 3 c.args.word c.args.x (c.args.word / 256)) (omega arith)
+returns-in-0 c = rw (c.in-0.is, three 0 1 3 c.args.word c.args.x (c.args.word / 256)) (omega arith)
 
 pub returns-in-1 : goal.returns-in-1
 unfolding with_bytes stored_at to_bytes
-returns-in-1 c = rw (c.in-0.keys2, three 1 1 2 c.args.word c.args.x (c.args.word / 256 / 256)) (omega arith)
+returns-in-1 c = rw (c.in-1.is, three 1 1 2 c.args.word c.args.x (c.args.word / 256 / 256)) (omega arith)
 
 pub returns-in-2 : goal.returns-in-2
 unfolding with_bytes stored_at to_bytes
-returns-in-2 c = rw (c.in-0.keys3, three 2 1 1 c.args.word c.args.x (c.args.word / 256 / 256 / 256)) (omega arith)
+returns-in-2 c = rw (c.in-2.is, three 2 1 1 c.args.word c.args.x (c.args.word / 256 / 256 / 256)) (omega arith)
 
 pub returns-in_default : goal.returns-in_default
 unfolding with_bytes stored_at to_bytes

@@ -3,12 +3,12 @@ use borrow.Author.Rules.{rules}
 use Rattle.decide.proofs.settle.loaded.Goals as goal
 
 pub word_in-word-requires : goal.word_in-word-requires
-word_in-word-requires c = rw c.reached-1.given.1 at c.requires.0
+word_in-word-requires c = rw c.in-Lands.is at c.requires.0
 
 pub returns-in-Lands : goal.returns-in-Lands
 returns-in-Lands c =
     rw (
-      c.reached-1.given.1,
+      c.in-Lands.is,
       c.on.ensures,
       c.loads.ensures,
       c.reg.ensures,
@@ -16,4 +16,4 @@ returns-in-Lands c =
     )
 
 pub returns-in-Exception : goal.returns-in-Exception
-returns-in-Exception c = rw (c.reached-in-Exception-1.given.1, c.refused.ensures)
+returns-in-Exception c = rw (c.in-Exception.is, c.refused.ensures)

@@ -3,10 +3,10 @@ use borrow.Author.Rules.{rules}
 use Rattle.decide.proofs.settle.stored.Goals as goal
 
 pub word_in-word-requires : goal.word_in-word-requires
-word_in-word-requires c = rw c.reached-1.given.1 at c.requires
+word_in-word-requires c = rw c.in-Lands.is at c.requires
 
 pub returns-in-Lands : goal.returns-in-Lands
-returns-in-Lands c = rw (c.reached-1.given.1, c.on.ensures, c.stores.ensures, c.word_in-word.ensures)
+returns-in-Lands c = rw (c.in-Lands.is, c.on.ensures, c.stores.ensures, c.word_in-word.ensures)
 
 pub returns-in-Exception : goal.returns-in-Exception
-returns-in-Exception c = rw (c.reached-in-Exception-1.given.1, c.refused.ensures)
+returns-in-Exception c = rw (c.in-Exception.is, c.refused.ensures)

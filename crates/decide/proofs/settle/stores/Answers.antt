@@ -3,7 +3,7 @@ use borrow.Author.Rules.{rules}
 use Rattle.decide.proofs.settle.stores.Goals as goal
 
 pub returns-in-Ram : goal.returns-in-Ram
-returns-in-Ram c = rw (c.place-1.given.1, c.store_part.ensures)
+returns-in-Ram c = rw (c.in-Ram.is, c.store_part.ensures)
 
 pub returns-in-Device : goal.returns-in-Device
-returns-in-Device c = rw c.place-in-Device-1.given.1
+returns-in-Device c = rw c.in-Device.is

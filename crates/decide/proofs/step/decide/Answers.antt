@@ -10,7 +10,7 @@ unfolding decide_of
 returns-then-interrupts c = rw (← c.interrupts.ensures, c.if-interrupts.true) c.trapped.ensures
 
 pub returns-in-Word : goal.returns-in-Word
-returns-in-Word c = c.execute.ensures ∙ sym (decide_done _ _ _ _ (sym c.interrupts.ensures ∙ c.if-interrupts.false) c.fetch.ensures c.word-1.given.1)
+returns-in-Word c = c.execute.ensures ∙ sym (decide_done _ _ _ _ (sym c.interrupts.ensures ∙ c.if-interrupts.false) c.fetch.ensures c.in-Word.is)
 
 pub returns-in-Refused : goal.returns-in-Refused
-returns-in-Refused c = c.refused.ensures ∙ sym (decide_done _ _ _ _ (sym c.interrupts.ensures ∙ c.if-interrupts.false) c.fetch.ensures c.code-1.given.1)
+returns-in-Refused c = c.refused.ensures ∙ sym (decide_done _ _ _ _ (sym c.interrupts.ensures ∙ c.if-interrupts.false) c.fetch.ensures c.in-Refused.is)

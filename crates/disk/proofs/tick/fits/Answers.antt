@@ -3,4 +3,4 @@ use borrow.Author.Rules.{rules}
 use Rattle.disk.proofs.tick.fits.Goals as goal
 
 pub returns : goal.returns
-returns c = rw (← c.block_of.ensures.place_is, ← c.in_ram.ensures)
+returns c = rw (← c.block_of-end.ensures.place_is, ← c.in_ram.ensures)

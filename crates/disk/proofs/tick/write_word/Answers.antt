@@ -18,8 +18,8 @@ overflow_sub-at c = let start = c in
 pub lend_blocks-requires : goal.lend_blocks-requires
 lend_blocks-requires c = let start = c in
     let f = fitting (length start.args.ram.now) (length start.args.bytes.now) start.args.d start.requires in
-    let blk = c.block_of.ensures.place_is in
+    let blk = c.block_of-block.ensures.place_is in
     record { to_in = rw (blk) f.block; from_in = omega arith; at_in = omega arith }
 
 pub returns : goal.returns
-returns c = rw (← c.block_of.ensures.place_is) c.lend_blocks.ensures
+returns c = rw (← c.block_of-block.ensures.place_is) c.lend_blocks.ensures

@@ -17,7 +17,7 @@ pub loop-n-preserved : goal.loop-n-preserved
 loop-n-preserved c =
     let l = c.loop-n in
     let start = c in
-    let ds = start.args.t1 in
+    let ds = start.args.disks in
     let inside : l.n < length ds = omega arith in (
       omega arith,
       c.put_disk.ensures ∙ rw l.invariant.1 (store_step 7 disk_words seven_words ds _ _ 0 l.n _ inside (omega arith)),
@@ -27,7 +27,7 @@ pub returns : goal.returns
 returns c =
     let l = c.loop-n in
     let start = c in
-    let ds = start.args.t1 in
+    let ds = start.args.disks in
     let all : l.n ≡ length ds = omega arith in
     let eight : length ds ≡ 8 = omega arith in
     l.invariant.1 ∙ rw (all, take-length ds) (sets_whole _ (flat disk_words ds) (length_held ds eight))

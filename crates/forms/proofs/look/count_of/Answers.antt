@@ -3,10 +3,10 @@ use borrow.Author.Rules.{rules}
 use Rattle.forms.proofs.look.count_of.Goals as goal
 
 pub returns-in-Value : goal.returns-in-Value
-returns-in-Value c = rw (c.found-1.given.1, c.goes_on.ensures)
+returns-in-Value c = rw (c.in-Value.is, c.goes_on.ensures)
 
 pub returns-in-TooLarge : goal.returns-in-TooLarge
-returns-in-TooLarge c = rw (c.found-in-TooLarge-1.given.1, c.fails.ensures)
+returns-in-TooLarge c = rw (c.in-TooLarge.is, c.fails.ensures)
 
 pub returns-in-Nothing : goal.returns-in-Nothing
-returns-in-Nothing c = rw c.enum_told-1.given.1
+returns-in-Nothing c = rw c.in-Nothing.is

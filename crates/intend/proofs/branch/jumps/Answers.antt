@@ -3,7 +3,7 @@ use Rattle.std.proofs.Common.{rules}
 use Rattle.intend.proofs.branch.jumps.Goals as goal
 
 pub returns-in-J : goal.returns-in-J
-returns-in-J c = rw (c.enum_told-1.given.1, c.jump-to.ensures)
+returns-in-J c = rw (c.in-J.is, c.jump-to.ensures)
 
 pub returns-in-Jal : goal.returns-in-Jal
-returns-in-Jal c = rw (c.enum_told-in-Jal-1.given.1, c.link.ensures, c.jump-to.ensures)
+returns-in-Jal c = rw (c.in-Jal.is, c.link.ensures, c.jump-to.ensures)

@@ -3,13 +3,13 @@ use Rattle.std.proofs.Common.{rules}
 use Rattle.intend.proofs.hi_lo.multiplied.Goals as goal
 
 pub returns-in-Mult : goal.returns-in-Mult
-returns-in-Mult c = rw (c.enum_told-1.given.1, c.mult.ensures)
+returns-in-Mult c = rw (c.in-Mult.is, c.mult.ensures)
 
 pub returns-in-Multu : goal.returns-in-Multu
-returns-in-Multu c = rw (c.enum_told-in-Multu-1.given.1, c.multu.ensures)
+returns-in-Multu c = rw (c.in-Multu.is, c.multu.ensures)
 
 pub returns-in-Div : goal.returns-in-Div
-returns-in-Div c = rw (c.enum_told-in-Div-1.given.1, c.div.ensures)
+returns-in-Div c = rw (c.in-Div.is, c.div.ensures)
 
 pub returns-in-Divu : goal.returns-in-Divu
-returns-in-Divu c = rw (c.enum_told-in-Divu-1.given.1, c.divu.ensures)
+returns-in-Divu c = rw (c.in-Divu.is, c.divu.ensures)

@@ -3,7 +3,7 @@ use Rattle.std.proofs.Common.{rules}
 use Rattle.intend.proofs.hi_lo.with_half.Goals as goal
 
 pub returns-in-Hi : goal.returns-in-Hi
-returns-in-Hi c = rw c.enum_told-1.given.1
+returns-in-Hi c = rw c.in-Hi.is
 
 pub returns-in-Lo : goal.returns-in-Lo
-returns-in-Lo c = rw c.enum_told-in-Lo-1.given.1
+returns-in-Lo c = rw c.in-Lo.is

@@ -3,22 +3,22 @@ use Rattle.std.proofs.Common.{rules}
 use Rattle.intend.proofs.operate.by_immediate.Goals as goal
 
 pub returns-in-Addi : goal.returns-in-Addi
-returns-in-Addi c = rw (c.enum_told-1.given.1, c.addi.ensures)
+returns-in-Addi c = rw (c.in-Addi.is, c.addi.ensures)
 
 pub returns-in-Addiu : goal.returns-in-Addiu
-returns-in-Addiu c = rw (c.enum_told-in-Addiu-1.given.1, c.addiu.ensures)
+returns-in-Addiu c = rw (c.in-Addiu.is, c.addiu.ensures)
 
 pub returns-in-Slti : goal.returns-in-Slti
-returns-in-Slti c = rw (c.enum_told-in-Slti-1.given.1, c.slti.ensures)
+returns-in-Slti c = rw (c.in-Slti.is, c.slti.ensures)
 
 pub returns-in-Sltiu : goal.returns-in-Sltiu
-returns-in-Sltiu c = rw (c.enum_told-in-Sltiu-1.given.1, c.sltiu.ensures)
+returns-in-Sltiu c = rw (c.in-Sltiu.is, c.sltiu.ensures)
 
 pub returns-in-Andi : goal.returns-in-Andi
-returns-in-Andi c = rw (c.enum_told-in-Andi-1.given.1, c.andi.ensures)
+returns-in-Andi c = rw (c.in-Andi.is, c.andi.ensures)
 
 pub returns-in-Ori : goal.returns-in-Ori
-returns-in-Ori c = rw (c.enum_told-in-Ori-1.given.1, c.ori.ensures)
+returns-in-Ori c = rw (c.in-Ori.is, c.ori.ensures)
 
 pub returns-in-Xori : goal.returns-in-Xori
-returns-in-Xori c = rw (c.enum_told-in-Xori-1.given.1, c.xori.ensures)
+returns-in-Xori c = rw (c.in-Xori.is, c.xori.ensures)

@@ -3,7 +3,7 @@ use Rattle.std.proofs.Common.{rules}
 use Rattle.intend.proofs.operate.summed.Goals as goal
 
 pub returns-in-Sum : goal.returns-in-Sum
-returns-in-Sum c = rw c.sum-1.given.1
+returns-in-Sum c = rw c.in-Sum.is
 
 pub returns-in-Overflow : goal.returns-in-Overflow
-returns-in-Overflow c = rw c.enum_told-1.given.1
+returns-in-Overflow c = rw c.in-Overflow.is

@@ -16,10 +16,10 @@ pub returns-then-rs-ge16 : goal.returns-then-rs-ge16
 returns-then-rs-ge16 c = rw (rest moves none CO [] 16 16 refl _ c.if-rs-ge16.true (omega arith) tt, c.function.ensures)
 
 pub returns-in-0 : goal.returns-in-0
-returns-in-0 c = rw (c.in-0.keys1, c.moved_from.ensures, c.register_named-named.ensures)
+returns-in-0 c = rw (c.in-0.is, c.moved_from.ensures, c.register_named-named.ensures)
 
 pub returns-in-4 : goal.returns-in-4
-returns-in-4 c = rw (c.in-0.keys2, c.moved_to.ensures, c.register_named-named.ensures)
+returns-in-4 c = rw (c.in-4.is, c.moved_to.ensures, c.register_named-named.ensures)
 
 pub returns-in_default : goal.returns-in_default
-returns-in_default c = rw (rest moves none none keys 16 0 refl _ (omega arith) (omega arith) c.in-0.rest)
+returns-in_default c = rw (rest moves none none keys 16 0 refl _ (omega arith) (omega arith) c.in_default.in_default-own.rest)

@@ -13,19 +13,19 @@ abbrev keys : List ℕ
 keys = 16 ∷ 8 ∷ 6 ∷ 2 ∷ 1 ∷ []
 
 pub returns-in-1 : goal.returns-in-1
-returns-in-1 c = rw c.in-1.keys1
+returns-in-1 c = rw c.in-1.is
 
 pub returns-in-2 : goal.returns-in-2
-returns-in-2 c = rw c.in-1.keys2
+returns-in-2 c = rw c.in-2.is
 
 pub returns-in-6 : goal.returns-in-6
-returns-in-6 c = rw c.in-1.keys3
+returns-in-6 c = rw c.in-6.is
 
 pub returns-in-8 : goal.returns-in-8
-returns-in-8 c = rw c.in-1.keys4
+returns-in-8 c = rw c.in-8.is
 
 pub returns-in-16 : goal.returns-in-16
-returns-in-16 c = rw c.in-1.keys5
+returns-in-16 c = rw c.in-16.is
 
 pub returns-in_default : goal.returns-in_default
-returns-in_default c = rw (rest functions Undefined Undefined keys 64 0 refl _ (omega arith) (omega arith) c.in-1.rest)
+returns-in_default c = rw (rest functions Undefined Undefined keys 64 0 refl _ (omega arith) (omega arith) c.in_default.in_default-own.rest)

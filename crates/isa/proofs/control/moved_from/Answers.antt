@@ -3,4 +3,4 @@ use borrow.Author.Rules.{rules}
 use Rattle.isa.proofs.control.moved_from.Goals as goal
 
 pub returns-in-Is : goal.returns-in-Is
-returns-in-Is c = rw c.named-1.given.1
+returns-in-Is c = rw c.in-Is.is

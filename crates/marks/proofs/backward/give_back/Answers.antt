@@ -9,7 +9,7 @@ returns-in-RamWord c =
     let replaced = c in
     let restored = replaced in
     let known = restored in
-    let place = known.s-1.given.0.0 in
+    let place = known.in-RamWord.place in
     let a = known.args in
-    rw known.s-1.given.1
+    rw known.in-RamWord.is
     (replaced.replace_any.ensures ∙ ap (λ (e : Entry). replace_in a.time (place / 4096) e a.index.now) restored.restored-entry.ensures)

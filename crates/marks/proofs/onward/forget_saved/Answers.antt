@@ -5,4 +5,4 @@ use Rattle.marks.proofs.onward.forget_saved.Goals as goal
 pub returns-in-RamWord : goal.returns-in-RamWord
 returns-in-RamWord c =
     let replaced = c in
-    rw replaced.s-1.given.1 replaced.replace_any.ensures
+    rw replaced.in-RamWord.is replaced.replace_any.ensures

@@ -6,9 +6,9 @@ pub mark_word-requires : goal.mark_word-requires
 mark_word-requires c =
     let known = c in
     let start = known in
-    (start.requires.0, rw known.effect-1.given.1 at start.requires.1)
+    (start.requires.0, rw known.in-Ram.is at start.requires.1)
 
 pub returns-in-Ram : goal.returns-in-Ram
 returns-in-Ram c =
     let marked = c in
-    rw marked.effect-1.given.1 marked.mark_word.ensures
+    rw marked.in-Ram.is marked.mark_word.ensures

@@ -23,7 +23,7 @@ loop-i-preserved c =
     let fits : start.args.at + 4 * l.i + 4 ≤ length l.m = omega (arith, start.requires, l.invariant) in (
       l.invariant.0,
       omega arith,
-      c.store_word.auto.0 ∙ l.invariant.2,
+      c.store_word.auto.m ∙ l.invariant.2,
       c.store_word.ensures
           ∙ stored_sets 4 l.m _ _ fits
           ∙ rw l.invariant.3 (store_step 4 (to_bytes 4) (length_to 4) start.args.words.now 0 start.args.m.now start.args.at l.i _ inside refl),

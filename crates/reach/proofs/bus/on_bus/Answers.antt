@@ -6,7 +6,7 @@ pub returns-then-permits : goal.returns-then-permits
 returns-then-permits c =
     rw (
       ← c.mapped.ensures,
-      c.place-1.given.1,
+      c.in-In.is,
       ← c.permits.ensures,
       c.if-permits.true,
     )
@@ -15,7 +15,7 @@ pub returns-else-permits : goal.returns-else-permits
 returns-else-permits c =
     rw (
       ← c.mapped.ensures,
-      c.place-1.given.1,
+      c.in-In.is,
       ← c.permits.ensures,
       c.if-permits.false,
     )
@@ -25,6 +25,6 @@ pub returns-in-Nowhere : goal.returns-in-Nowhere
 returns-in-Nowhere c =
     rw (
       ← c.mapped.ensures,
-      c.enum_told-1.given.1,
+      c.in-Nowhere.is,
     )
     c.refused-in-Nowhere.ensures

@@ -11,11 +11,11 @@ returns-in-At c =
     let known = read in
     let searched = known in
     let start = searched in
-    let is = lowest_at (found_in searched.sought.result start.args.rows) _ (sym searched.lowest.ensures ∙ known.i-1.given.1) in
+    let is = lowest_at (found_in searched.sought.result start.args.rows) _ (sym searched.lowest.ensures ∙ known.in-At.is) in
     let within = (found_lowest _ _ _ _ is).within in
     rw (← searched.sought.ensures, is, ← read_row _ _ within, ← read.read-row.ensures) c.by_row.ensures
 
 pub returns-in-Nothing : goal.returns-in-Nothing
 returns-in-Nothing c =
     let searched = c in
-    rw (c.tlb_error.ensures, ← searched.sought.ensures, lowest_nothing (found_in searched.sought.result searched.args.rows) (sym searched.lowest.ensures ∙ c.enum_told-1.given.1))
+    rw (c.tlb_error.ensures, ← searched.sought.ensures, lowest_nothing (found_in searched.sought.result searched.args.rows) (sym searched.lowest.ensures ∙ c.in-Nothing.is))

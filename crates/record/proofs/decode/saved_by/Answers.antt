@@ -5,18 +5,18 @@ use Rattle.record.proofs.decode.saved_by.Goals as goal
 
 pub returns-in-1 : goal.returns-in-1
 unfolding saved_at
-returns-in-1 c = rw c.in-1.keys1
+returns-in-1 c = rw c.in-1.is
 
 pub returns-in-2 : goal.returns-in-2
 unfolding saved_at
-returns-in-2 c = rw c.in-1.keys2
+returns-in-2 c = rw c.in-2.is
 
 pub returns-in-3 : goal.returns-in-3
 unfolding saved_at
-returns-in-3 c = rw c.in-1.keys3
+returns-in-3 c = rw c.in-3.is
 
 pub returns-in_default : goal.returns-in_default
 unfolding saved_at
 returns-in_default c =
-    let no = c.in-1.rest in
+    let no = c.in_default.in_default-own.rest in
     simp (ne_eqb _ _ no.0.0.1, ne_eqb _ _ no.0.1, ne_eqb _ _ no.1)

@@ -3,10 +3,10 @@ use borrow.Author.Rules.{rules}
 use Rattle.record.proofs.encode.saved_words.Goals as goal
 
 pub returns-in-Register : goal.returns-in-Register
-returns-in-Register c = rw c.s-1.given.1
+returns-in-Register c = rw c.in-Register.is
 
 pub returns-in-TlbRow : goal.returns-in-TlbRow
-returns-in-TlbRow c = rw c.s-in-TlbRow-1.given.1
+returns-in-TlbRow c = rw c.in-TlbRow.is
 
 pub returns-in-RamWord : goal.returns-in-RamWord
-returns-in-RamWord c = rw c.s-in-RamWord-1.given.1
+returns-in-RamWord c = rw c.in-RamWord.is

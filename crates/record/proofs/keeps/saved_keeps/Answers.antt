@@ -5,22 +5,22 @@ use Rattle.record.proofs.keeps.saved_keeps.Goals as goal
 
 pub returns-in-0 : goal.returns-in-0
 unfolding saved_keeps
-returns-in-0 c = rw c.in-0.keys1
+returns-in-0 c = rw c.in-0.is
 
 pub returns-in-1 : goal.returns-in-1
 unfolding saved_keeps
-returns-in-1 c = rw c.in-0.keys2
+returns-in-1 c = rw c.in-1.is
 
 pub returns-in-2 : goal.returns-in-2
 unfolding saved_keeps
-returns-in-2 c = rw c.in-0.keys3
+returns-in-2 c = rw c.in-2.is
 
 pub returns-in-3 : goal.returns-in-3
 unfolding saved_keeps
-returns-in-3 c = rw c.in-0.keys4
+returns-in-3 c = rw c.in-3.is
 
 pub returns-in_default : goal.returns-in_default
 unfolding saved_keeps
 returns-in_default c =
-    let no = c.in-0.rest in
+    let no = c.in_default.in_default-own.rest in
     simp (ne_eqb _ _ no.0.0.0.1, ne_eqb _ _ no.0.0.1, ne_eqb _ _ no.0.1, ne_eqb _ _ no.1)

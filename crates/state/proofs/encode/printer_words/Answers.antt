@@ -21,12 +21,12 @@ loop-i-preserved c =
     let e2 : 5 * i + 2 ≡ suc (suc (5 * i)) = omega arith in
     let e3 : 5 * i + 3 ≡ suc (suc (suc (5 * i))) = omega arith in
     let e4 : 5 * i + 4 ≡ suc (suc (suc (suc (5 * i)))) = omega arith in
-    let inside : i < length start.args.t1 = omega arith in
-    (omega arith, simp length-set l.invariant.1, rw (e1, e2, e3, e4) (rw l.invariant.2 (store_step 5 printer_words (λ x. refl) start.args.t1 _ _ 0 i (5 * i) inside (omega arith))))
+    let inside : i < length start.args.printers = omega arith in
+    (omega arith, simp length-set l.invariant.1, rw (e1, e2, e3, e4) (rw l.invariant.2 (store_step 5 printer_words (λ x. refl) start.args.printers _ _ 0 i (5 * i) inside (omega arith))))
 
 pub returns : goal.returns
 returns c =
     let l = c.loop-i in
     let start = c in
-    let all : l.i ≡ length start.args.t1 = omega arith in
-    l.invariant.2 ∙ rw (all, take-length start.args.t1) (sets_whole _ _ (length_flat 5 printer_words (λ x. refl) start.args.t1 ∙ omega arith))
+    let all : l.i ≡ length start.args.printers = omega arith in
+    l.invariant.2 ∙ rw (all, take-length start.args.printers) (sets_whole _ _ (length_flat 5 printer_words (λ x. refl) start.args.printers ∙ omega arith))

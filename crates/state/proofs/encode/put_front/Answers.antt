@@ -14,9 +14,9 @@ use Rattle.state.proofs.encode.put_front.Goals as goal
 pub returns : goal.returns
 returns c =
     let start = c in
-    let regs = drop 1 start.args.t1 in
-    let core = start.args.t2 in
-    let rows = start.args.t3 in
+    let regs = drop 1 start.args.regs in
+    let core = start.args.core in
+    let rows = start.args.rows in
     let image = start.args.image.now in
     let e₀ = sets_append header (flat word_bytes (regs ++ (core ++ rows))) image 0 in
     let long : length regs ≡ 31 = simp length-drop (omega (arith, start)) in

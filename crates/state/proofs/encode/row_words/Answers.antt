@@ -18,12 +18,12 @@ loop-i-preserved c =
     let start = c in
     let i = l.i in
     let e1 : 2 * i + 1 ≡ suc (2 * i) = omega arith in
-    let inside : i < length start.args.t1 = omega arith in
-    (omega arith, simp length-set l.invariant.1, rw (e1) (rw l.invariant.2 (store_step 2 row_words (λ x. refl) start.args.t1 _ _ 0 i (2 * i) inside (omega arith))))
+    let inside : i < length start.args.rows = omega arith in
+    (omega arith, simp length-set l.invariant.1, rw (e1) (rw l.invariant.2 (store_step 2 row_words (λ x. refl) start.args.rows _ _ 0 i (2 * i) inside (omega arith))))
 
 pub returns : goal.returns
 returns c =
     let l = c.loop-i in
     let start = c in
-    let all : l.i ≡ length start.args.t1 = omega arith in
-    l.invariant.2 ∙ rw (all, take-length start.args.t1) (sets_whole _ _ (length_flat 2 row_words (λ x. refl) start.args.t1 ∙ omega arith))
+    let all : l.i ≡ length start.args.rows = omega arith in
+    l.invariant.2 ∙ rw (all, take-length start.args.rows) (sets_whole _ _ (length_flat 2 row_words (λ x. refl) start.args.rows ∙ omega arith))

@@ -7,31 +7,31 @@ pub store_device-requires : goal.store_device-requires
 store_device-requires c = c.requires
 
 pub returns-in-DeviceStore : goal.returns-in-DeviceStore
-returns-in-DeviceStore c = rw c.effect-1.given.1 c.store_device.ensures
+returns-in-DeviceStore c = rw c.in-DeviceStore.is c.store_device.ensures
 
 pub returns-in-Nothing : goal.returns-in-Nothing
-returns-in-Nothing c = rw c.enum_told-1.given.1 (record { board_is = refl; told = c.requires })
+returns-in-Nothing c = rw c.in-Nothing.is (record { board_is = refl; told = c.requires })
 
 pub returns-in-Register : goal.returns-in-Register
-returns-in-Register c = rw c.enum_told-in-Register-1.given.1 (record { board_is = refl; told = c.requires })
+returns-in-Register c = rw c.in-Register.is (record { board_is = refl; told = c.requires })
 
 pub returns-in-HiLo : goal.returns-in-HiLo
-returns-in-HiLo c = rw c.enum_told-in-HiLo-1.given.1 (record { board_is = refl; told = c.requires })
+returns-in-HiLo c = rw c.in-HiLo.is (record { board_is = refl; told = c.requires })
 
 pub returns-in-Control : goal.returns-in-Control
-returns-in-Control c = rw c.enum_told-in-Control-1.given.1 (record { board_is = refl; told = c.requires })
+returns-in-Control c = rw c.in-Control.is (record { board_is = refl; told = c.requires })
 
 pub returns-in-Entry : goal.returns-in-Entry
-returns-in-Entry c = rw c.enum_told-in-Entry-1.given.1 (record { board_is = refl; told = c.requires })
+returns-in-Entry c = rw c.in-Entry.is (record { board_is = refl; told = c.requires })
 
 pub returns-in-TlbRow : goal.returns-in-TlbRow
-returns-in-TlbRow c = rw c.enum_told-in-TlbRow-1.given.1 (record { board_is = refl; told = c.requires })
+returns-in-TlbRow c = rw c.in-TlbRow.is (record { board_is = refl; told = c.requires })
 
 pub returns-in-Ram : goal.returns-in-Ram
-returns-in-Ram c = rw c.enum_told-in-Ram-1.given.1 (record { board_is = refl; told = c.requires })
+returns-in-Ram c = rw c.in-Ram.is (record { board_is = refl; told = c.requires })
 
 pub returns-in-DeviceLoad : goal.returns-in-DeviceLoad
-returns-in-DeviceLoad c = rw c.enum_told-in-DeviceLoad-1.given.1 (record { board_is = refl; told = c.requires })
+returns-in-DeviceLoad c = rw c.in-DeviceLoad.is (record { board_is = refl; told = c.requires })
 
 pub returns-in-Raise : goal.returns-in-Raise
-returns-in-Raise c = rw c.enum_told-in-Raise-1.given.1 (record { board_is = refl; told = c.requires })
+returns-in-Raise c = rw c.in-Raise.is (record { board_is = refl; told = c.requires })

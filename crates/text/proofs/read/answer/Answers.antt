@@ -3,7 +3,7 @@ use borrow.Author.Rules.{rules}
 use Rattle.text.proofs.read.answer.Goals as goal
 
 pub returns-in-Is : goal.returns-in-Is
-returns-in-Is c = rw c.total-1.given.1
+returns-in-Is c = rw c.in-Is.is
 
 pub returns-in-TooLarge : goal.returns-in-TooLarge
-returns-in-TooLarge c = rw c.enum_told-1.given.1
+returns-in-TooLarge c = rw c.in-TooLarge.is

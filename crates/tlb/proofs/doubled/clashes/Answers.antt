@@ -14,12 +14,12 @@ loop-j-init c = refl
 pub loop-j-preserved : goal.loop-j-preserved
 loop-j-preserved c =
     let at = c in
-    at.loop-j.invariant ∙ clash_miss at.args.t2 at.loop-j.j _ (search rules) (sym c.clash.ensures ∙ c.if-clash.false)
+    at.loop-j.invariant ∙ clash_miss at.args.t at.loop-j.j _ (search rules) (sym c.clash.ensures ∙ c.if-clash.false)
 
 pub returns-then-j-ge16 : goal.returns-then-j-ge16
-returns-then-j-ge16 c = let at = c in sym (at.loop-j.invariant ∙ clash_end at.args.t2 at.loop-j.j _ (search rules))
+returns-then-j-ge16 c = let at = c in sym (at.loop-j.invariant ∙ clash_end at.args.t at.loop-j.j _ (search rules))
 
 pub returns-then-clash : goal.returns-then-clash
 returns-then-clash c =
     let at = c in
-    sym (at.loop-j.invariant ∙ clash_hit at.args.t2 at.loop-j.j _ (search rules) (sym c.clash.ensures ∙ c.if-clash.true))
+    sym (at.loop-j.invariant ∙ clash_hit at.args.t at.loop-j.j _ (search rules) (sym c.clash.ensures ∙ c.if-clash.true))

@@ -11,12 +11,12 @@ use Rattle.tlb.proofs.doubled.doubled.Goals as goal
 pub loop-i-preserved : goal.loop-i-preserved
 loop-i-preserved c =
     let at = c in
-    at.loop-i.invariant ∙ double_miss at.args.t1 at.loop-i.i (search rules) (sym c.clashes.ensures ∙ c.if-clashes.false)
+    at.loop-i.invariant ∙ double_miss at.args.t at.loop-i.i (search rules) (sym c.clashes.ensures ∙ c.if-clashes.false)
 
 pub returns-then-i-ge16 : goal.returns-then-i-ge16
-returns-then-i-ge16 c = let at = c in sym (at.loop-i.invariant ∙ double_end at.args.t1 at.loop-i.i (search rules))
+returns-then-i-ge16 c = let at = c in sym (at.loop-i.invariant ∙ double_end at.args.t at.loop-i.i (search rules))
 
 pub returns-then-clashes : goal.returns-then-clashes
 returns-then-clashes c =
     let at = c in
-    sym (at.loop-i.invariant ∙ double_hit at.args.t1 at.loop-i.i (search rules) (sym c.clashes.ensures ∙ c.if-clashes.true))
+    sym (at.loop-i.invariant ∙ double_hit at.args.t at.loop-i.i (search rules) (sym c.clashes.ensures ∙ c.if-clashes.true))

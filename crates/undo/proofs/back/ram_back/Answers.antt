@@ -11,5 +11,5 @@ store_word-requires c =
     omega (arith, room)
 
 pub returns-in-RamWord : goal.returns-in-RamWord
-returns-in-RamWord c = let s = c.s-1.given.1 in
+returns-in-RamWord c = let s = c.in-RamWord.is in
     rw s (c.store_word.ensures ∙ stored_sets 4 _ _ _ (leb-true _ _ (rw s at c.requires)))

@@ -4,7 +4,7 @@ use Rattle.std.proofs.Common.{rules}
 use Rattle.undo.proofs.back.regs_back.Goals as goal
 
 pub bounds-back-at : goal.bounds-back-at
-bounds-back-at c = register_below _ (rw c.s-1.given.1 at c.requires)
+bounds-back-at c = register_below _ (rw c.in-Register.is at c.requires)
 
 pub returns-in-Register : goal.returns-in-Register
-returns-in-Register c = rw c.s-1.given.1
+returns-in-Register c = rw c.in-Register.is

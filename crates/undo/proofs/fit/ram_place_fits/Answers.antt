@@ -3,4 +3,4 @@ use Rattle.std.proofs.Common.{rules}
 use Rattle.undo.proofs.fit.ram_place_fits.Goals as goal
 
 pub returns-in-RamWord : goal.returns-in-RamWord
-returns-in-RamWord c = rw c.s-1.given.1
+returns-in-RamWord c = rw c.in-RamWord.is
