@@ -6,11 +6,11 @@ use mathlib.Core.Bool.{Bool, true, false, cond, ◌||◌, false≢true}
 use mathlib.Core.List.{List}
 use native.Mathlib.Decide.{dec_lt}
 use native.Mathlib.Omega.{arith}
-use lib.ListN.{length, get_or, set, length-set}
+use lib.ListN.{length, get_or, length-set}
 use lib.Seq.{get_or-set_same, get_or-set_other}
-use Rattle.word.specs.Map.{bit, with_bit}
+use Rattle.word.specs.Map.{bit}
 use Rattle.word.proofs.Maps.{bit_told, bit_other, with_small}
-use Rattle.device.specs.Line.{pending_on, some_of, ticked_to, pending_to}
+use Rattle.device.specs.Line.{pending_on, ticked_to, pending_to}
 
 -- neither of two
 pub neither : (a b : Bool) → (a || b) ≡ false → (a ≡ false) × (b ≡ false)

@@ -1,5 +1,4 @@
 -- `pending_on` meets its contract.
-use borrow.Author.Rules.{rules}
 use Rattle.device.proofs.pending_on.Goals as goal
 
 pub returns-then-finished : goal.returns-then-finished
