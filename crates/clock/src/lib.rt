@@ -35,7 +35,7 @@ fn carried(high: u32, low: u32) -> u32
     high
 }
 
-// The work, by value: covered, so that all that is to be shown is arithmetic. Word by word: the count is
+// The work, by value, so that all that is to be shown is arithmetic. Word by word: the count is
 // never made one number and taken apart again.
 pub fn ticked(c: Clock) -> Beat
     ensures { result ≡ ticked_of c }
@@ -51,7 +51,7 @@ pub fn ticked(c: Clock) -> Beat
     }
 }
 
-// The form that document 01 asks for: lent by reference and moved on in place. A walk by hand.
+// The form that document 01 asks for: lent by reference and moved on in place.
 pub fn tick(c: &mut Clock) -> bool
     ensures { (result ≡ (ticked_of c.old).rang) × (c.new ≡ (ticked_of c.old).clock) }
 {
@@ -61,7 +61,7 @@ pub fn tick(c: &mut Clock) -> bool
     t.rang
 }
 
-// Above it, with plain values: whoever calls this one needs no walk.
+// Above it, with plain values: the clock comes in and goes out by value.
 pub fn tick_of(c: Clock) -> Beat
     ensures { result ≡ ticked_of c }
 {

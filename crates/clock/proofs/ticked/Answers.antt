@@ -1,5 +1,5 @@
 -- `clock::ticked` meets its contract: the two words of the count, each stepped by itself, are those of the whole count one step later (`low_word`, `high_word`), put into the record.
-use Rattle.std.proofs.Common.{◌≡◌, ℕ, ◌+◌, ◌*◌, ◌/◌, ◌%◌, ◌^◌, ◌<◌, cond, eqb, ◌∙◌, arith, rules, eq-eqb, ne_eqb}
+use Rattle.std.proofs.Common.{◌≡◌, ℕ, ◌+◌, ◌*◌, ◌/◌, ◌%◌, ◌^◌, ◌<◌, cond, eqb, ◌∙◌, arith, eq-eqb, ne_eqb}
 use native.Mathlib.Decide.{ℕ_discrete}
 use Rattle.clock.specs.Tick.{up, down, ticked_of}
 use Rattle.clock.proofs.ticked.Goals as goal
@@ -23,7 +23,7 @@ returns c =
     let was = stepped.args.c in
     let h : was.high < 2 ^ 32 = omega arith in
     let l : was.low < 2 ^ 32 = omega arith in
-    let low = low_word was.high was.low _ h l stepped.wrapping_add_u32-low.ensures in
-    let high = c.carried.ensures ∙ high_word was.high was.low _ h l stepped.wrapping_add_u32-low.ensures in
+    let low = low_word was.high was.low _ h l stepped.wrapping_add_u32-low.ensures.value in
+    let high = c.carried.ensures ∙ high_word was.high was.low _ h l stepped.wrapping_add_u32-low.ensures.value in
     let timer : c.wrapping_sub_u32.result ≡ down 32 was.timer = omega arith in
     λ i. record { clock = record { high = high i; low = low i; timer = timer i }; rang = eqb was.timer 0 }
