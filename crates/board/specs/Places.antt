@@ -1,7 +1,6 @@
 -- The physical address map: the manual's ROM and RAM areas, and document 01's "Bus words and printers" for the device area's end.
 use Rattle.std.specs.Prelude.{Bool, cond, ◌&&◌, ℕ, ◌-◌, leb, ltb}
 use Rattle.board.specs.declared.places.Sizes.{Sizes}
-use Rattle.board.specs.declared.places.Place.{Place}
 use Rattle.board.specs.declared.places.Place.TheVariants.{Ram, Execution, Bootstrap, Device}
 use Rattle.board.specs.declared.places.OnBus.{OnBus}
 use Rattle.board.specs.declared.places.OnBus.TheVariants.{In, Nowhere}

@@ -2,7 +2,6 @@
 use mathlib.Core.Path.{sym, ◌∙◌}
 use Rattle.board.specs.Places.{mapped_of}
 use Rattle.board.proofs.Areas.{starts}
-use borrow.Author.Rules.{rules}
 use Rattle.board.proofs.places.mapped.Goals as goal
 
 pub overflow_sub-result : goal.overflow_sub-result

@@ -1,21 +1,19 @@
 -- `board::rom::answered` meets its contract: what `fit` ensures of each ROM, and `held` of the address.
-use borrow.Author.Tests.{not-true, not-false}
 use Rattle.board.specs.Rom.{answer_of}
-use borrow.Author.Rules.{rules}
 use Rattle.board.proofs.rom.answered.Goals as goal
 
 pub returns-then-not-fit : goal.returns-then-not-fit
 unfolding answer_of
-returns-then-not-fit c = rw (← c.fit.ensures, not-true c.fit.result c.if-not-fit.true)
+returns-then-not-fit c = rw (← c.fit.ensures, c.if-not-fit.true)
 
 pub returns-then-not-fit-2 : goal.returns-then-not-fit-2
 unfolding answer_of
 returns-then-not-fit-2 c =
     rw (
       ← c.fit.ensures,
-      not-false c.fit.result c.if-not-fit.false,
+      c.if-not-fit.false,
       ← c.fit-2.ensures,
-      not-true c.fit-2.result c.if-not-fit-2.true,
+      c.if-not-fit-2.true,
     )
 
 pub returns-then-not-held : goal.returns-then-not-held
@@ -23,11 +21,11 @@ unfolding answer_of
 returns-then-not-held c =
     rw (
       ← c.fit.ensures,
-      not-false c.fit.result c.if-not-fit.false,
+      c.if-not-fit.false,
       ← c.fit-2.ensures,
-      not-false c.fit-2.result c.if-not-fit-2.false,
+      c.if-not-fit-2.false,
       ← c.held.ensures,
-      not-true c.held.result c.if-not-held.true,
+      c.if-not-held.true,
     )
 
 pub returns : goal.returns
@@ -35,9 +33,9 @@ unfolding answer_of
 returns c =
     rw (
       ← c.fit.ensures,
-      not-false c.fit.result c.if-not-fit.false,
+      c.if-not-fit.false,
       ← c.fit-2.ensures,
-      not-false c.fit-2.result c.if-not-fit-2.false,
+      c.if-not-fit-2.false,
       ← c.held.ensures,
-      not-false c.held.result c.if-not-held.false,
+      c.if-not-held.false,
     )

@@ -1,7 +1,6 @@
 -- `board::rom::from_rom` meets its contract: where the answer is done, the four bytes lie in the ROM that spans the address.
 use mathlib.Core.Path.{sym, ◌∙◌}
 use Rattle.board.proofs.Windows.{in_execution, from_base, in_bootstrap}
-use borrow.Author.Rules.{rules}
 use Rattle.board.proofs.rom.from_rom.Goals as goal
 
 pub four-requires : goal.four-requires

@@ -1,6 +1,5 @@
 -- `board::rom::held` meets its contract: the test of the address, and what `spans` ensures of each ROM.
 use borrow.Author.Tests.{eq-eqb, ne_eqb}
-use borrow.Author.Rules.{rules}
 use Rattle.board.proofs.rom.held.Goals as goal
 
 pub returns-then-a-ne0 : goal.returns-then-a-ne0
