@@ -1,7 +1,7 @@
 -- Bytes laid behind bytes: where they end, and that the parts lay the whole.
 use mathlib.Core.Path.{◌≡◌, refl, ap, sym, ◌∙◌}
 use mathlib.Core.List.{List, [], ◌∷◌, ◌++◌}
-use Prim.Native.Nat.{ℕ, suc, ◌+◌, ◌-◌, ◌<◌, ◌≤◌, min}
+use Prim.Native.Nat.{ℕ, suc, ◌+◌, ◌<◌, ◌≤◌}
 use mathlib.Core.Bool.{Bool, true, false}
 use lib.Dec.{ltb}
 use borrow.Author.Tests.{ltb-true, ltb-false}
@@ -9,7 +9,7 @@ use native.Mathlib.Omega.{arith}
 use native.Mathlib.Numerals.{add-one}
 use lib.ListN.{length, get_or, take, length-append, length-set, set}
 use lib.Seq.{sets, set_out, length-sets, take-suc, take_all}
-use Rattle.text.specs.Laid.{Laid, laid_of, behind_of}
+use Rattle.text.specs.Laid.{Laid, behind_of}
 
 -- behind the end nothing is stored
 sets_out : (l : List ℕ) (i : ℕ) (vs : List ℕ) → length l ≤ i → sets l i vs ≡ l

@@ -1,5 +1,4 @@
 -- `text::read::answer` meets its contract, by cases.
-use borrow.Author.Rules.{rules}
 use Rattle.text.proofs.read.answer.Goals as goal
 
 pub returns-in-Is : goal.returns-in-Is

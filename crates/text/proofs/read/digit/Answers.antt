@@ -1,5 +1,4 @@
 -- `text::read::digit` meets its contract.
-use borrow.Author.Rules.{rules}
 use borrow.Author.Tests.{lt-ltb, le-ltb, le-leb, lt-leb}
 use Rattle.text.specs.Digit.{digit_of}
 use Rattle.text.proofs.read.digit.Goals as goal

@@ -2,7 +2,6 @@
 use mathlib.Core.Path.{sym, ◌∙◌}
 use Rattle.text.proofs.Heads.{head_within}
 use Rattle.text.proofs.Numbers.{digits_none, digits_some}
-use borrow.Author.Rules.{rules}
 use Rattle.text.proofs.read.digits.Goals as goal
 
 pub returns-then-to-from : goal.returns-then-to-from

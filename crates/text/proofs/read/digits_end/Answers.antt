@@ -1,9 +1,6 @@
 -- `text::read::digits_end` meets its contract. The loop's invariant: the digits from `at` on end where those from `from` on do.
-use mathlib.Core.Path.{◌≡◌, refl, sym, ◌∙◌}
-use Prim.Native.Nat.{◌+◌, ◌-◌}
-use lib.ListN.{length, drop}
+use mathlib.Core.Path.{refl, sym, ◌∙◌}
 use borrow.Author.Rules.{rules}
-use Rattle.text.specs.Digit.{run_of}
 use Rattle.text.proofs.Heads.{head_past}
 use Rattle.text.proofs.Runs.{run_stops, run_goes}
 use Rattle.text.proofs.read.digits_end.Goals as goal

@@ -1,11 +1,8 @@
 -- `text::read::digits_end` meets its contract. The loop's invariant: the digits from `at` on end where those from `from` on do.
-use mathlib.Core.Path.{◌≡◌, refl, sym, ◌∙◌}
+use mathlib.Core.Path.{◌≡◌}
 use Prim.Native.Nat.{◌+◌, ◌-◌}
 use lib.ListN.{length, drop}
-use borrow.Author.Rules.{rules}
 use Rattle.text.specs.Digit.{run_of}
-use Rattle.text.proofs.Heads.{head_past}
-use Rattle.text.proofs.Runs.{run_stops, run_goes}
 use Rattle.text.proofs.read.digits_end.Given as goal
 
 abbrev pub invariant-loop-at : goal.invariant-loop-at

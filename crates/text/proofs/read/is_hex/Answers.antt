@@ -5,7 +5,6 @@ use Rattle.text.specs.Number.{is_hex}
 use Prim.Native.Nat.{ℕ, ◌+◌, ◌≤◌}
 use native.Mathlib.Omega.{arith}
 use lib.ListN.{length}
-use borrow.Author.Rules.{rules}
 use Rattle.text.proofs.read.is_hex.Goals as goal
 
 pub returns-then-line-from : goal.returns-then-line-from

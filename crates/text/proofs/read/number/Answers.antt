@@ -3,7 +3,6 @@ use mathlib.Core.Path.{sym, ◌∙◌}
 use native.Mathlib.Omega.{arith}
 use Rattle.text.specs.Number.{number_of}
 use Rattle.text.proofs.Numbers.{hex_within}
-use borrow.Author.Rules.{rules}
 use Rattle.text.proofs.read.number.Goals as goal
 
 pub overflow_add-from : goal.overflow_add-from

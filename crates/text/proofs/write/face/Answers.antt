@@ -1,7 +1,6 @@
 -- `text::write::face` meets its contract.
 use borrow.Author.Tests.{lt-ltb, le-ltb}
 use Rattle.text.specs.Spelt.{face_of}
-use borrow.Author.Rules.{rules}
 use Rattle.text.proofs.write.face.Goals as goal
 
 pub returns-then-digit-lt10 : goal.returns-then-digit-lt10

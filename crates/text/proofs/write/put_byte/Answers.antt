@@ -1,6 +1,5 @@
 -- `text::write::put_byte` meets its contract.
 use Rattle.text.proofs.Laying.{laid_past, laid_one}
-use borrow.Author.Rules.{rules}
 use Rattle.text.proofs.write.put_byte.Goals as goal
 
 pub returns-then-out-at : goal.returns-then-out-at

@@ -1,5 +1,4 @@
 -- `text::write::put_digit` meets its contract: it lays the digit's face.
-use borrow.Author.Rules.{rules}
 use Rattle.text.proofs.write.put_digit.Goals as goal
 
 pub returns : goal.returns

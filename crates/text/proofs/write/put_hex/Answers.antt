@@ -1,6 +1,5 @@
 -- `text::write::put_hex` meets its contract.
 use Rattle.text.proofs.Laying.{laid_then}
-use borrow.Author.Rules.{rules}
 use Rattle.text.proofs.write.put_hex.Goals as goal
 
 pub returns : goal.returns

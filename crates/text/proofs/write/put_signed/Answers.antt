@@ -1,7 +1,6 @@
 -- `text::write::put_signed` meets its contract.
 use borrow.Author.Tests.{lt-ltb, le-ltb}
 use Rattle.text.proofs.Laying.{laid_then}
-use borrow.Author.Rules.{rules}
 use Rattle.text.proofs.write.put_signed.Goals as goal
 
 pub returns-then-wide-lt2147483648 : goal.returns-then-wide-lt2147483648

@@ -1,6 +1,5 @@
 -- `text::write::within` meets its contract.
 use borrow.Author.Tests.{lt-ltb, le-ltb}
-use Rattle.text.specs.Spelt.{within_of}
 use Rattle.text.proofs.write.within.Goals as goal
 
 pub returns-then-digits-lt1 : goal.returns-then-digits-lt1

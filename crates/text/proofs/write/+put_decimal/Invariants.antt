@@ -1,0 +1,5 @@
+-- The measure of `text::write::put_decimal` is the value.
+use Rattle.text.proofs.write.+put_decimal.Given as goal
+
+abbrev pub decreases-put_decimal : goal.decreases-put_decimal
+decreases-put_decimal l = l.value
