@@ -1,14 +1,14 @@
 -- Each piece, by the tests that lead to each of its answers.
-use mathlib.Core.Path.{◌≡◌, refl, sym, ◌∙◌}
+use mathlib.Core.Path.{◌≡◌}
 use mathlib.Core.Bool.{true, false}
 use mathlib.Core.List.{List}
 use Prim.Native.Nat.{ℕ, ◌+◌, ◌-◌, ◌<◌, ◌≤◌}
 use native.Mathlib.Omega.{arith}
-use borrow.Author.Tests.{eq-eqb, ne_eqb, lt-ltb, le-ltb, le-leb, lt-leb}
+use borrow.Author.Tests.{eq-eqb, ne_eqb, le-leb, lt-leb}
 use lib.ListN.{length, drop}
 use Rattle.text.specs.Number.{number_of}
 use Rattle.text.specs.declared.found.Number.{Number}
-use Rattle.piece.specs.Mark.{goes_on, fails_at, stands_of, behind_spaces, agreed_of, gap_of, end_of, word_of, count_of, number_in, name_mark_of}
+use Rattle.piece.specs.Mark.{goes_on, fails_at, stands_of, behind_spaces, agreed_of, gap_of, end_of, word_of, count_of, number_in}
 use Rattle.piece.specs.declared.mark.Mark.{Mark}
 
 module _ (line : List ℕ) (m : Mark) where

@@ -1,5 +1,4 @@
 -- `piece::behind::counted` meets its contract.
-use borrow.Author.Rules.{rules}
 use Rattle.piece.proofs.behind.counted.Goals as goal
 
 pub returns : goal.returns

@@ -1,5 +1,4 @@
 -- `piece::behind::past` meets its contract.
-use borrow.Author.Rules.{rules}
 use Rattle.piece.proofs.behind.past.Goals as goal
 
 pub returns : goal.returns

@@ -1,12 +1,8 @@
 -- `piece::mark::behind_agreed` meets its contract. The loop's invariant: the bytes at `at` that agree with the word from i on end where those at `from` do.
-use mathlib.Core.Path.{◌≡◌, refl, sym, ◌∙◌}
+use mathlib.Core.Path.{◌≡◌}
 use Prim.Native.Nat.{◌+◌, ◌-◌}
-use native.Mathlib.Omega.{arith}
-use borrow.Author.Tests.{not-true, not-false}
 use lib.ListN.{length, drop}
 use Rattle.piece.specs.Mark.{agreed_of}
-use Rattle.piece.proofs.Agreed.{stands_within, agreed_end, agreed_goes, agreed_stops}
-use borrow.Author.Rules.{rules}
 use Rattle.piece.proofs.mark.behind_agreed.Given as goal
 
 abbrev pub invariant-loop-i : goal.invariant-loop-i

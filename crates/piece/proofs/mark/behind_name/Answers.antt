@@ -1,12 +1,8 @@
 -- `piece::mark::behind_name` meets its contract. The loop's invariant: what stands at `at` ends where what stands at `from` does.
-use mathlib.Core.Path.{◌≡◌, refl, sym, ◌∙◌}
-use Prim.Native.Nat.{◌+◌, ◌-◌}
-use lib.ListN.{length, drop}
+use mathlib.Core.Path.{refl, sym, ◌∙◌}
 use borrow.Author.Tests.{lt-ltb, le-ltb}
-use Rattle.text.specs.Head.{head_of}
 use Rattle.text.proofs.Heads.{head_past, head_stops, head_goes}
 use Rattle.piece.specs.Mark.{is_name_byte}
-use borrow.Author.Rules.{rules}
 use Rattle.piece.proofs.mark.behind_name.Goals as goal
 
 pub loop-at-init : goal.loop-at-init

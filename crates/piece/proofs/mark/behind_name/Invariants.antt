@@ -1,12 +1,9 @@
 -- `piece::mark::behind_name` meets its contract. The loop's invariant: what stands at `at` ends where what stands at `from` does.
-use mathlib.Core.Path.{◌≡◌, refl, sym, ◌∙◌}
+use mathlib.Core.Path.{◌≡◌}
 use Prim.Native.Nat.{◌+◌, ◌-◌}
 use lib.ListN.{length, drop}
-use borrow.Author.Tests.{lt-ltb, le-ltb}
 use Rattle.text.specs.Head.{head_of}
-use Rattle.text.proofs.Heads.{head_past, head_stops, head_goes}
 use Rattle.piece.specs.Mark.{is_name_byte}
-use borrow.Author.Rules.{rules}
 use Rattle.piece.proofs.mark.behind_name.Given as goal
 
 abbrev pub invariant-loop-at : goal.invariant-loop-at

@@ -1,5 +1,4 @@
 -- `piece::mark::counted` meets its contract, by cases.
-use borrow.Author.Rules.{rules}
 use Rattle.piece.proofs.mark.counted.Goals as goal
 
 pub returns-in-Value : goal.returns-in-Value

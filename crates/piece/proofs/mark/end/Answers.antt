@@ -1,7 +1,6 @@
 -- `piece::mark::end` meets its contract.
-use mathlib.Core.Path.{sym, ◌∙◌}
+use mathlib.Core.Path.{◌∙◌}
 use Rattle.piece.proofs.Pieces.{end_goes, end_fails, end_over}
-use borrow.Author.Rules.{rules}
 use Rattle.piece.proofs.mark.end.Goals as goal
 
 pub returns-then-line-at : goal.returns-then-line-at

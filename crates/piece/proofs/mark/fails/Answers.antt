@@ -1,6 +1,5 @@
 -- `piece::mark::fails` meets its contract.
 use borrow.Author.Tests.{lt-ltb, le-ltb}
-use borrow.Author.Rules.{rules}
 use Rattle.piece.proofs.mark.fails.Goals as goal
 
 pub returns-then-m-place : goal.returns-then-m-place

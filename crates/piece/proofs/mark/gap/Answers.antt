@@ -1,7 +1,6 @@
 -- `piece::mark::gap` meets its contract.
 use mathlib.Core.Path.{sym, ◌∙◌}
 use Rattle.piece.proofs.Pieces.{gap_goes, gap_fails, gap_over}
-use borrow.Author.Rules.{rules}
 use Rattle.piece.proofs.mark.gap.Goals as goal
 
 pub returns-then-stands : goal.returns-then-stands

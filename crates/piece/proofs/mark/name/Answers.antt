@@ -1,5 +1,4 @@
 -- `piece::mark::name` meets its contract.
-use borrow.Author.Rules.{rules}
 use Rattle.piece.proofs.mark.name.Goals as goal
 
 pub returns : goal.returns

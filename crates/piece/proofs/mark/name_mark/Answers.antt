@@ -1,6 +1,5 @@
 -- `piece::mark::name_mark` meets its contract.
 use borrow.Author.Tests.{lt-ltb, le-ltb}
-use borrow.Author.Rules.{rules}
 use Rattle.piece.proofs.mark.name_mark.Goals as goal
 
 pub returns-then-from-to : goal.returns-then-from-to

@@ -1,7 +1,6 @@
 -- `piece::mark::number` meets its contract.
-use mathlib.Core.Path.{sym, ◌∙◌}
+use mathlib.Core.Path.{◌∙◌}
 use Rattle.piece.proofs.Pieces.{number_goes, number_over}
-use borrow.Author.Rules.{rules}
 use Rattle.piece.proofs.mark.number.Goals as goal
 
 pub returns-then-m : goal.returns-then-m

@@ -1,7 +1,6 @@
 -- `piece::mark::stands` meets its contract.
 use mathlib.Core.Path.{sym}
 use Rattle.piece.proofs.Agreed.{stands_past, stands_there}
-use borrow.Author.Rules.{rules}
 use Rattle.piece.proofs.mark.stands.Goals as goal
 
 pub returns-then-line-at : goal.returns-then-line-at

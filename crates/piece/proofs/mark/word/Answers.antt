@@ -1,7 +1,6 @@
 -- `piece::mark::word` meets its contract.
-use mathlib.Core.Path.{sym, ◌∙◌}
+use mathlib.Core.Path.{◌∙◌}
 use Rattle.piece.proofs.Pieces.{word_goes, word_fails, word_over}
-use borrow.Author.Rules.{rules}
 use Rattle.piece.proofs.mark.word.Goals as goal
 
 pub returns-then-at-from : goal.returns-then-at-from
