@@ -1,5 +1,4 @@
 -- `reach::landed` meets its contract.
-use borrow.Author.Rules.{rules}
 use Rattle.reach.proofs.landed.Goals as goal
 
 pub returns-in-To : goal.returns-in-To

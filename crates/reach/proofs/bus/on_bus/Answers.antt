@@ -1,5 +1,4 @@
 -- `reach::bus::on_bus` meets its contract: the place that `mapped` gave, and whether it is permitted.
-use borrow.Author.Rules.{rules}
 use Rattle.reach.proofs.bus.on_bus.Goals as goal
 
 pub returns-then-permits : goal.returns-then-permits

@@ -4,7 +4,6 @@ use Prim.Native.Nat.{◌%◌}
 use native.Mathlib.Omega.{arith}
 use borrow.Author.Tests.{eq-eqb}
 use Rattle.reach.specs.Check.{aligned_of}
-use borrow.Author.Rules.{rules}
 use Rattle.reach.proofs.check.aligned.Goals as goal
 
 pub returns-in-One : goal.returns-in-One

@@ -1,5 +1,4 @@
 -- `reach::check::allowed` meets its contract: each way out has the tests that led there.
-use borrow.Author.Rules.{rules}
 use Rattle.reach.proofs.check.allowed.Goals as goal
 
 pub returns-then-mode-2 : goal.returns-then-mode-2

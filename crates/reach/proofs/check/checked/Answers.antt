@@ -1,5 +1,4 @@
 -- `reach::check::checked` meets its contract: what its two callees ensure.
-use borrow.Author.Rules.{rules}
 use Rattle.reach.proofs.check.checked.Goals as goal
 
 pub returns-then-aligned : goal.returns-then-aligned

@@ -1,6 +1,5 @@
 -- `reach::plain::plain` meets its contract: each way out has the tests that led there.
-use borrow.Author.Rules.{rules}
-use borrow.Author.Tests.{not-true, not-false, lt-leb, le-leb}
+use borrow.Author.Tests.{lt-leb, le-leb}
 use Rattle.reach.specs.Plain.{plain_of}
 use Rattle.reach.proofs.plain.plain.Goals as goal
 
@@ -15,7 +14,7 @@ returns-then-not-aligned c =
       ← c.has_bit.ensures,
       c.if-has_bit.false,
       ← c.aligned.ensures,
-      not-true c.aligned.result c.if-not-aligned.true,
+      c.if-not-aligned.true,
     )
 
 pub returns-then-va-lt-RAM : goal.returns-then-va-lt-RAM
@@ -25,7 +24,7 @@ returns-then-va-lt-RAM c =
       ← c.has_bit.ensures,
       c.if-has_bit.false,
       ← c.aligned.ensures,
-      not-false c.aligned.result c.if-not-aligned.false,
+      c.if-not-aligned.false,
       lt-leb _ _ c.if-va-lt-RAM.true,
     )
 
@@ -36,6 +35,6 @@ returns c =
       ← c.has_bit.ensures,
       c.if-has_bit.false,
       ← c.aligned.ensures,
-      not-false c.aligned.result c.if-not-aligned.false,
+      c.if-not-aligned.false,
       le-leb _ _ c.if-va-lt-RAM.false,
     )

@@ -1,7 +1,5 @@
 -- `reach::translate::by_row` meets its contract: V, then D, then the frame.
-use borrow.Author.Tests.{not-true, not-false}
 use Rattle.reach.specs.Translate.{by_row}
-use borrow.Author.Rules.{rules}
 use Rattle.reach.proofs.translate.by_row.Goals as goal
 
 pub returns-then-not-has_bit : goal.returns-then-not-has_bit
@@ -10,7 +8,7 @@ returns-then-not-has_bit c =
     rw (
       c.tlb_error.ensures,
       ← c.has_bit.ensures,
-      not-true c.has_bit.result c.if-not-has_bit.true,
+      c.if-not-has_bit.true,
     )
 
 pub returns-then-locked : goal.returns-then-locked
@@ -18,7 +16,7 @@ unfolding by_row
 returns-then-locked c =
     rw (
       ← c.has_bit.ensures,
-      not-false c.has_bit.result c.if-not-has_bit.false,
+      c.if-not-has_bit.false,
       ← c.locked.ensures,
       c.if-locked.true,
     )
@@ -28,7 +26,7 @@ unfolding by_row
 returns c =
     rw (
       ← c.has_bit.ensures,
-      not-false c.has_bit.result c.if-not-has_bit.false,
+      c.if-not-has_bit.false,
       ← c.locked.ensures,
       c.if-locked.false,
     )

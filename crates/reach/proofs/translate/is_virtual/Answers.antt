@@ -1,5 +1,4 @@
 -- `reach::translate::is_virtual` meets its contract.
-use borrow.Author.Rules.{rules}
 use Rattle.reach.proofs.translate.is_virtual.Goals as goal
 
 pub returns-then-mode : goal.returns-then-mode

@@ -2,7 +2,6 @@
 use mathlib.Core.Path.{sym, ◌∙◌}
 use Rattle.tlb.proofs.Laws.{found_lowest, lowest_at, lowest_nothing, read_row}
 use Rattle.tlb.specs.Search.{found_in}
-use borrow.Author.Rules.{rules}
 use Rattle.reach.proofs.translate.searched.Goals as goal
 
 pub returns-in-At : goal.returns-in-At

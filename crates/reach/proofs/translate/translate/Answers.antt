@@ -1,6 +1,5 @@
 -- `reach::translate::translate` meets its contract.
 use Rattle.reach.specs.Translate.{translated_of}
-use borrow.Author.Rules.{rules}
 use Rattle.reach.proofs.translate.translate.Goals as goal
 
 pub returns-then-is_virtual : goal.returns-then-is_virtual

@@ -1,7 +1,6 @@
 -- `reach::translate::twice` meets its contract.
 use mathlib.Core.Path.{ap, ◌∙◌}
 use Rattle.tlb.specs.Search.{is_twice}
-use borrow.Author.Rules.{rules}
 use Rattle.reach.proofs.translate.twice.Goals as goal
 
 pub returns-then-is_virtual : goal.returns-then-is_virtual
