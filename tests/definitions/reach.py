@@ -18,20 +18,20 @@ import sys
 
 # What the public calls and the theorems over them state. Everything that a reader must believe is reached from here.
 STATEMENTS = [
-    "runLeaves", "backLeaves", "resetAnswer", "resetImage", "resetIndex", "lastWriteAnswer", "lastWriteBytes",
-    "romAnswer", "windowOf", "packedOf",
-    "ResetIs", "ConvertIs", "LastWriteIs", "buffersOf", "buffersBack",
+    "run_leaves", "back_leaves", "reset_answer", "reset_image", "reset_index", "last_write_answer", "last_write_bytes",
+    "rom_answer", "window_of", "packed_of",
+    "ResetIs", "ConvertIs", "LastWriteIs", "buffers_of", "buffers_back",
     "PackedResetIs", "PackedConvertIs", "PackedIs", "PackedLastWriteIs", "Unchanged",
-    "Booted", "demand3.calledAll", "TakesBack", "demand3.indexOf", "marked",
+    "Booted", "demand3.called_all", "TakesBack", "demand3.index_of", "marked",
     "Claim", "EachClaim", "RunClaim",
-    "SlotTold", "KeepsBranch", "readsOf", "Agree",
-    "lastChangeOf", "newestAtOf", "oldestAtOf", "Tells", "pcsAgo", "agoIn", "TellsLast",
-    "isa.encodeOf", "isa.Proper",
-    "remote.heardOf", "remote.toldOf", "remote.Within", "remote.Says",
+    "SlotTold", "KeepsBranch", "reads_of", "Agree",
+    "last_change_of", "newest_at_of", "oldest_at_of", "Tells", "pcs_ago", "ago_in", "TellsLast",
+    "isa.encode_of", "isa.Proper",
+    "remote.heard_of", "remote.told_of", "remote.Within", "remote.Says",
     # the disks of document 02, L4, which no call reaches before the step has them
-    "disks.tickedOf", "disks.commandOf", "disks.dataOf", "disks.lineKeeps", "disks.shownOf", "disks.noteOf", "disks.noteWords",
-    "disks.undoOf", "disks.undoWord", "disks.wordOf", "disks.keptsIn", "disks.lineIn", "disks.diskWords", "disks.eight", "disk.resetOf", "disk.sizeKeeps", "disk.keptFits", "disk.keptFrom",
-    "command.commandOf", "text.numberOf", "text.Laid", "text.decimalOf", "text.groupedOf", "text.signedOf", "text.hexOf",
+    "disks.ticked_of", "disks.command_of", "disks.data_of", "disks.line_keeps", "disks.shown_of", "disks.note_of", "disks.note_words",
+    "disks.undo_of", "disks.undo_word", "disks.word_of", "disks.kepts_in", "disks.line_in", "disks.disk_words", "disks.eight", "disk.reset_of", "disk.size_keeps", "disk.kept_fits", "disk.kept_from",
+    "command.command_of", "text.number_of", "text.Laid", "text.decimal_of", "text.grouped_of", "text.signed_of", "text.hex_of",
 ]
 
 # Below this line a file has aids to the proofs of the code. A file of nothing else begins with it.
@@ -58,8 +58,8 @@ class Module:
 
     def key_of(self, path):
         """The module that a path of a `use` names, as (crate, file), or None where it is not a definition of the project."""
-        found = re.match(r"^Rattle·([A-Za-z_0-9]+?)(?:·specs)?\.specs\.(.+)$", path)
-        return (found.group(1), found.group(2)) if found else None
+        found = re.match(r"^Rattle\.([a-z_0-9]+)\.specs\.(.+)$", path)
+        return (found.group(1), found.group(2)) if found and found.group(1) not in ("std", "core") else None
 
     def read(self):
         current, deep, whole = None, 0, False  # the definition at hand, its indent, and whether it is a type, whose fields are part of it
@@ -118,7 +118,11 @@ def used_by(module, name, modules):
             yield module.brought[token]
         elif "." in token:
             first, _, rest = token.partition(".")
-            if first in module.nicknames and rest:
+            if first in module.texts and first != name:
+                yield (module.crate, module.name), first
+            elif first in module.brought:
+                yield module.brought[first]
+            elif first in module.nicknames and rest:
                 yield module.nicknames[first], rest.split(".")[0]
 
 
