@@ -1,6 +1,6 @@
 -- What a tick leaves of the pending map, known before it: the map is not 0 exactly if it was not 0, or a printer finishes.
 use Prim.Native.Nat.{ℕ, zero, suc}
-use mathlib.Core.Path.{◌≡◌, refl, sym}
+use mathlib.Core.Path.{◌≡◌, refl}
 use mathlib.Core.Bool.{Bool, not, ◌||◌}
 use mathlib.Core.List.{List}
 use lib.Dec.{eqb}

@@ -5,7 +5,6 @@ use mathlib.Core.Bool.{Bool, true, false, cond}
 use mathlib.Core.List.{List}
 use native.Mathlib.Omega.{arith}
 use lib.ListN.{length, get_or, set, length-set}
-use Rattle.word.specs.Map.{bit}
 use Rattle.device.specs.Line.{ticked_to, pending_to}
 use Rattle.device.proofs.Passed as device
 use Rattle.printer.specs.declared.Printer.{Printer}

@@ -4,7 +4,7 @@ use mathlib.Core.Path.{◌≡◌, refl, ap}
 use mathlib.Core.Bool.{false}
 use mathlib.Core.List.{List}
 use native.Mathlib.Numerals.{add-one}
-use lib.ListN.{get_or, set}
+use lib.ListN.{get_or}
 use lib.Seq.{set-get_or}
 pub use Rattle.device.proofs.Passed.{neither}
 use Rattle.printer.specs.declared.Printer.{Printer}

@@ -1,5 +1,4 @@
 -- `printer::cause::shown` meets its contract: line 6 is as the map says.
-use borrow.Author.Rules.{rules}
 use Rattle.printer.proofs.cause.shown.Goals as goal
 
 pub returns : goal.returns

@@ -1,6 +1,5 @@
 -- `rules::present_keeps` meets its contract.
 use Rattle.printer.specs.Rules.{present_keeps}
-use borrow.Author.Rules.{rules}
 use Rattle.printer.proofs.rules.present_keeps.Goals as goal
 
 pub returns : goal.returns

@@ -1,6 +1,5 @@
 -- `rules::printer_keeps` meets its contract.
 use Rattle.printer.specs.Rules.{printer_keeps}
-use borrow.Author.Rules.{rules}
 use Rattle.printer.proofs.rules.printer_keeps.Goals as goal
 
 pub returns : goal.returns

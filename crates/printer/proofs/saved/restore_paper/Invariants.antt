@@ -1,11 +1,8 @@
 -- `saved::restore_paper` meets its contract. The invariant: what is left to put back gives the whole.
-use borrow.Author.Rules.{rules}
-use mathlib.Core.Path.{◌≡◌, refl, ◌∙◌}
-use Prim.Native.Nat.{◌-◌, ◌≤◌}
-use native.Mathlib.Omega.{arith}
+use mathlib.Core.Path.{◌≡◌}
+use Prim.Native.Nat.{◌≤◌}
 use lib.ListN.{length}
 use Rattle.printer.specs.Saved.{put_back}
-use Rattle.printer.proofs.Undo.{put_on, put_end}
 use Rattle.printer.proofs.saved.restore_paper.Given as goal
 
 abbrev pub invariant-loop-n : goal.invariant-loop-n

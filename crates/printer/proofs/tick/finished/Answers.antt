@@ -2,7 +2,6 @@
 use native.Mathlib.Omega.{arith}
 use borrow.Author.Tests.{eq-eqb, ne_eqb, lt-ltb, le-ltb}
 use Rattle.printer.specs.Tick.{finished_of}
-use borrow.Author.Rules.{rules}
 use Rattle.printer.proofs.tick.finished.Goals as goal
 
 pub returns-then-p-ne-PRINTCHR : goal.returns-then-p-ne-PRINTCHR

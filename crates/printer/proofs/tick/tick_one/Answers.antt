@@ -1,7 +1,6 @@
 -- `tick::tick_one` meets its contract: each way out has the tests that led there.
 use borrow.Author.Tests.{eq-eqb, ne_eqb, le-leb, lt-leb}
 use Rattle.printer.specs.Tick.{printer_ticked, paper_ticked}
-use borrow.Author.Rules.{rules}
 use Rattle.printer.proofs.tick.tick_one.Goals as goal
 
 pub returns-then-p-ne-BUSY : goal.returns-then-p-ne-BUSY
