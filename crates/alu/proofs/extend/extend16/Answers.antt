@@ -1,5 +1,5 @@
 -- `alu::extend::extend16` meets its contract.
-use Rattle.std.proofs.Common.{◌%◌, ◌^◌, arith, rules}
+use Rattle.std.proofs.Common.{◌%◌, ◌^◌, arith}
 use Rattle.word.proofs.Signs.{extended_low, extended_high}
 use Rattle.alu.proofs.extend.extend16.Goals as goal
 

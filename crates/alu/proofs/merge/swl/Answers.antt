@@ -1,5 +1,5 @@
 -- `alu::merge::swl` meets its contract: at each of the four places, how many bytes come from each of the two.
-use Rattle.std.proofs.Common.{◌≡◌, ◌/◌, ◌%◌, arith, rules}
+use Rattle.std.proofs.Common.{◌≡◌, ◌/◌, ◌%◌, arith}
 use Rattle.word.specs.Little.{to_bytes}
 use Rattle.alu.proofs.Parts.{joined}
 use Rattle.alu.proofs.merge.swl.Goals as goal

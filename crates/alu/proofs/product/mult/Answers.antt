@@ -1,6 +1,5 @@
 -- `alu::product::mult` meets its contract: a product is its sign with the product of the sizes.
 use Rattle.word.proofs.Signs.{times}
-use Rattle.std.proofs.Common.{rules}
 use Rattle.alu.proofs.product.mult.Goals as goal
 
 pub returns : goal.returns

@@ -1,5 +1,4 @@
 -- `alu::product::multu` meets its contract.
-use Rattle.std.proofs.Common.{rules}
 use Rattle.alu.proofs.product.multu.Goals as goal
 
 pub returns : goal.returns

@@ -1,5 +1,5 @@
 -- `alu::product::product` meets its contract: the product of two words fits in 64 bits.
-use Rattle.std.proofs.Common.{arith, rules}
+use Rattle.std.proofs.Common.{arith}
 use Rattle.alu.proofs.Fits.{product_fits}
 use Rattle.alu.proofs.product.product.Goals as goal
 

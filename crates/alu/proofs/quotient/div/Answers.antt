@@ -1,5 +1,5 @@
 -- `alu::quotient::div` meets its contract: quotient and remainder are those of the sizes, each with its sign.
-use Rattle.std.proofs.Common.{◌^◌, ◌<◌, arith, rules, eq-eqb, ne_eqb}
+use Rattle.std.proofs.Common.{◌^◌, arith, eq-eqb, ne_eqb}
 use Rattle.word.proofs.Signs.{size_of_nonzero, quotient, remainder}
 use Rattle.alu.proofs.quotient.div.Goals as goal
 
@@ -7,16 +7,13 @@ pub returns-then-y-eq0 : goal.returns-then-y-eq0
 returns-then-y-eq0 c = rw (eq-eqb c.args.y 0 c.if-y-eq0.true)
 
 -- the divisor's size is not 0 where the divisor is not
-divisor : (c : tie.After-taken-apart2) → 0 < c.taken_apart-b.result.size
-divisor c =
-    let all = c in
-    rw c.taken_apart-b.ensures.1 (size_of_nonzero (2 ^ 31) all.args.y (omega arith) all.ranges.y.fits)
-
 pub nonzero_rem-a : goal.nonzero_rem-a
-nonzero_rem-a c = divisor c
+nonzero_rem-a c =
+    rw c.taken_apart-b.ensures.1 (size_of_nonzero (2 ^ 31) c.args.y (omega arith) c.ranges.y.fits)
 
 pub nonzero_div-a : goal.nonzero_div-a
-nonzero_div-a c = divisor c
+nonzero_div-a c =
+    rw c.taken_apart-b.ensures.1 (size_of_nonzero (2 ^ 31) c.args.y (omega arith) c.ranges.y.fits)
 
 pub returns : goal.returns
 returns c =

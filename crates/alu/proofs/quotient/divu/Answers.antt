@@ -1,5 +1,5 @@
 -- `alu::quotient::divu` meets its contract.
-use Rattle.std.proofs.Common.{rules, eq-eqb, ne_eqb}
+use Rattle.std.proofs.Common.{eq-eqb, ne_eqb}
 use Rattle.alu.proofs.quotient.divu.Goals as goal
 
 pub returns-then-y-eq0 : goal.returns-then-y-eq0

@@ -1,5 +1,5 @@
 -- `alu::shift::sra` meets its contract: a number and its complement are shifted alike.
-use Rattle.std.proofs.Common.{◌-◌, ◌%◌, ◌^◌, sym, arith, rules}
+use Rattle.std.proofs.Common.{◌-◌, ◌%◌, ◌^◌, sym, arith}
 use lib.Pow.{shr_le}
 use Rattle.alu.proofs.ShiftBits.{sra_plain, sra_negative}
 use Rattle.alu.proofs.shift.sra.Goals as goal

@@ -1,5 +1,5 @@
 -- `alu::sign::taken_apart` meets its contract.
-use Rattle.std.proofs.Common.{◌-◌, ◌^◌, refl, arith, rules}
+use Rattle.std.proofs.Common.{◌-◌, ◌^◌, refl, arith}
 use Rattle.word.proofs.Signs.{below_half, above_half, not_negative, negative_size, negative_sign}
 use Rattle.alu.proofs.sign.taken_apart.Goals as goal
 

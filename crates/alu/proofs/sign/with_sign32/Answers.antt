@@ -1,5 +1,5 @@
 -- `alu::sign::with_sign32` meets its contract.
-use Rattle.std.proofs.Common.{◌^◌, arith, rules}
+use Rattle.std.proofs.Common.{◌^◌, arith}
 use Rattle.word.proofs.Signs.{zero_word, negative_word}
 use Rattle.alu.proofs.sign.with_sign32.Goals as goal
 

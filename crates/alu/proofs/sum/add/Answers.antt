@@ -1,5 +1,5 @@
 -- `alu::sum::add` meets its contract: the ranks add, and 2^31 from each makes the 2^32 too much.
-use Rattle.std.proofs.Common.{◌^◌, ◌+ℤ◌, sym, ap, ◌∙◌, ap₂, rules}
+use Rattle.std.proofs.Common.{◌^◌, ◌+ℤ◌, sym, ap, ◌∙◌, ap₂}
 use Rattle.word.proofs.Differences.{minus_plus}
 use Rattle.alu.specs.Sum.{exactly}
 use Rattle.alu.proofs.sum.add.Goals as goal

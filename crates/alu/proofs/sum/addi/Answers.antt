@@ -1,5 +1,4 @@
 -- `alu::sum::addi` meets its contract.
-use Rattle.std.proofs.Common.{rules}
 use Rattle.alu.proofs.sum.addi.Goals as goal
 
 pub returns : goal.returns

@@ -1,5 +1,5 @@
 -- `alu::sum::exact` meets its contract: each range of n by itself.
-use Rattle.std.proofs.Common.{suc, ◌-◌, ◌^◌, ap, arith, rules}
+use Rattle.std.proofs.Common.{suc, ◌-◌, ◌^◌, ap, arith}
 use Rattle.word.proofs.Signs.{negated}
 use Rattle.word.proofs.Differences.{minus_below, minus_above, fits_below, fits_above, outside_below, outside_above}
 use Rattle.alu.specs.declared.sum.Added.TheVariants.{Sum}

@@ -1,5 +1,5 @@
 -- `alu::sum::rank` meets its contract.
-use Rattle.std.proofs.Common.{◌+◌, ◌-◌, ◌^◌, pos, negsuc, ap, arith, rules}
+use Rattle.std.proofs.Common.{◌+◌, ◌-◌, ◌^◌, pos, negsuc, ap, arith}
 use Rattle.word.proofs.Signs.{below_half, above_ones}
 use Rattle.word.proofs.Differences.{minus_below, minus_above}
 use Rattle.alu.proofs.sum.rank.Goals as goal

@@ -1,5 +1,5 @@
 -- `alu::sum::slt` meets its contract: the ranks have the order of the numbers.
-use Rattle.std.proofs.Common.{◌^◌, rules, le-ltb, lt-ltb}
+use Rattle.std.proofs.Common.{◌^◌, le-ltb, lt-ltb}
 use Rattle.word.proofs.Differences.{minus_order}
 use Rattle.alu.proofs.sum.slt.Goals as goal
 

@@ -1,5 +1,4 @@
 -- `alu::sum::slti` meets its contract.
-use Rattle.std.proofs.Common.{rules}
 use Rattle.alu.proofs.sum.slti.Goals as goal
 
 pub returns : goal.returns

@@ -1,5 +1,5 @@
 -- `alu::sum::sltiu` meets its contract.
-use Rattle.std.proofs.Common.{ap, ◌∙◌, rules}
+use Rattle.std.proofs.Common.{ap, ◌∙◌}
 use Rattle.alu.specs.Sum.{sltu_of}
 use Rattle.alu.proofs.sum.sltiu.Goals as goal
 

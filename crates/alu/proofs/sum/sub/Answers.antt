@@ -1,5 +1,5 @@
 -- `alu::sum::sub` meets its contract: the ranks are taken from each other, and 2^32 more keeps that above 0.
-use Rattle.std.proofs.Common.{◌+◌, ◌-◌, ◌^◌, ℤ, pos, ◌+ℤ◌, ◌-ℤ◌, sym, ap, ◌∙◌, ap₂, arith, rules}
+use Rattle.std.proofs.Common.{◌+◌, ◌-◌, ◌^◌, ℤ, pos, ◌+ℤ◌, ◌-ℤ◌, sym, ap, ◌∙◌, ap₂, arith}
 use Rattle.word.proofs.Differences.{minus_plus, minus_minus, minus_same}
 use Rattle.alu.specs.Sum.{exactly}
 use Rattle.alu.proofs.sum.sub.Goals as goal
