@@ -2,7 +2,7 @@
  * A service panel of one screen, over include/lavushmir.h. Nothing else of the
  * project has to be known to read it.
  *
- *     rt staticlib lavushmir
+ *     tools/archive lavushmir
  *     cc -std=c99 -I include examples/panel.c target/staticlib/liblavushmir.a
  *
  * The archive keeps no memory of its own. A machine is seven buffers of yours,

@@ -4,7 +4,7 @@
 #
 #     station/build.sh [ARCHIVE [FOLDER [FLAGS..]]]
 #
-# ARCHIVE is the x86-64 archive (rt staticlib station); without it,
+# ARCHIVE is the x86-64 archive (tools/archive station); without it,
 # target/staticlib/libstation.a. FOLDER takes the programs; without it,
 # target/station. FLAGS go to the compiler.
 #
@@ -16,7 +16,7 @@ archive=${1:-$here/../target/staticlib/libstation.a}
 folder=${2:-$here/../target/station}
 shift $(($# < 2 ? $# : 2))
 if [ ! -f "$archive" ]; then
-    echo "$0: no file $archive: run 'rt staticlib station'" >&2
+    echo "$0: no file $archive: run 'tools/archive station'" >&2
     exit 2
 fi
 mkdir -p "$folder"

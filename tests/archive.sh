@@ -9,7 +9,7 @@
 #     cd "$(dirname "$0")"
 #     run_program ARGUMENTS
 #
-# ARCHIVE is the x86-64 archive, a file named libNAME.a (rt staticlib NAME).
+# ARCHIVE is the x86-64 archive, a file named libNAME.a (tools/archive NAME).
 #
 # On Arm the program is built for x86-64 and run by qemu-x86_64. That needs
 # gcc-x86-64-linux-gnu, qemu-user, and Rust's own library for

@@ -4,7 +4,7 @@
 #     tests/blame/run.sh ARCHIVE [SEED [HISTORIES]]
 #
 # ARCHIVE is the x86-64 archive of the panel, a file named libstation.a
-# (rt staticlib station); for Arm see tests/archive.sh.
+# (tools/archive station); for Arm see tests/archive.sh.
 set -eu
 . "$(dirname "$0")/../archive.sh"
 run_with station 'ARCHIVE [SEED [HISTORIES]]' "$@"

@@ -4,7 +4,7 @@
 #     tests/hits/run.sh ARCHIVE [QUESTIONS [SEED]]
 #
 # ARCHIVE is the x86-64 archive of the station, a file named libstation.a
-# (rt staticlib station); for Arm see tests/archive.sh. Without QUESTIONS it is
+# (tools/archive station); for Arm see tests/archive.sh. Without QUESTIONS it is
 # the part that the gate runs; 20000 is the whole.
 set -eu
 . "$(dirname "$0")/../archive.sh"

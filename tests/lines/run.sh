@@ -5,7 +5,7 @@
 #     tests/lines/run.sh ARCHIVE [SEED [LINES]]
 #
 # ARCHIVE is the x86-64 archive of that reader for tests, a file named libheard.a
-# (rt staticlib heard); for Arm see tests/archive.sh.
+# (tools/archive heard); for Arm see tests/archive.sh.
 set -eu
 . "$(dirname "$0")/../archive.sh"
 run_with heard 'ARCHIVE [SEED [LINES]]' "$@"

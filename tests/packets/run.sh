@@ -5,7 +5,7 @@
 #     tests/packets/run.sh ARCHIVE [INPUTS [SEED]]
 #
 # ARCHIVE is the x86-64 archive of the station, a file named libstation.a
-# (rt staticlib station); for Arm see tests/archive.sh. Without INPUTS it is the
+# (tools/archive station); for Arm see tests/archive.sh. Without INPUTS it is the
 # part that the gate runs; 100000 is the whole. The program gets as many, in sessions
 # of up to 30, every other one of up to 8,000 bytes cut at every byte; in the whole,
 # every one. It is built

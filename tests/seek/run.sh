@@ -4,7 +4,7 @@
 #     tests/seek/run.sh ARCHIVE [SEED [HISTORIES]]
 #
 # ARCHIVE is the x86-64 archive of the exports for tests, a file named
-# libsought.a (rt staticlib sought); for Arm see tests/archive.sh.
+# libsought.a (tools/archive sought); for Arm see tests/archive.sh.
 set -eu
 . "$(dirname "$0")/../archive.sh"
 run_with sought 'ARCHIVE [SEED [HISTORIES]]' "$@"

@@ -5,7 +5,7 @@
 #
 #     tests/station/run.sh ARCHIVE [PART ..]
 #
-# ARCHIVE is the x86-64 archive (rt staticlib station). PART: answers, statuses,
+# ARCHIVE is the x86-64 archive (tools/archive station). PART: answers, statuses,
 # sessions, damages, faults, conversions. Needs gcc and python3; on Arm gcc-x86-64-linux-gnu,
 # qemu-user and libc6:amd64.
 #
