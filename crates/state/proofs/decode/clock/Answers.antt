@@ -1,5 +1,4 @@
 -- `state::decode::clock` meets its contract: each field is the word that was read for it.
-use borrow.Author.Rules.{rules}
 use mathlib.Core.Path.{refl}
 use Rattle.state.proofs.decode.clock.Goals as goal
 

@@ -1,5 +1,4 @@
 -- `state::decode::decode` meets its contract: the part from byte 5 is the whole rest.
-use borrow.Author.Rules.{rules}
 use mathlib.Core.Path.{◌≡◌}
 use Prim.Native.Nat.{◌-◌}
 use native.Mathlib.Omega.{arith}

@@ -1,5 +1,4 @@
 -- `state::decode::machine` meets its contract: each part is what was read for it.
-use borrow.Author.Rules.{rules}
 use Rattle.state.specs.Layout.{machine_at}
 use Rattle.state.proofs.decode.machine.Goals as goal
 

@@ -1,5 +1,4 @@
 -- `state::decode::registers` meets its contract: the part lent to `get_words` comes back behind register 0.
-use borrow.Author.Rules.{rules}
 use mathlib.Core.Path.{refl}
 use Rattle.state.proofs.decode.registers.Goals as goal
 

@@ -1,11 +1,9 @@
 -- `state::encode::printer_words` meets its contract. The invariant: the words of the printers passed are stored, and nothing else.
-use mathlib.Core.Path.{◌≡◌, refl, ◌∙◌}
-use Prim.Native.Nat.{suc, ◌+◌, ◌*◌, ◌-◌, ◌≤◌, ◌<◌}
-use native.Mathlib.Omega.{arith}
-use lib.ListN.{length, take, length-set}
-use lib.Seq.{sets, take-length}
+use mathlib.Core.Path.{◌≡◌}
+use Prim.Native.Nat.{◌-◌, ◌≤◌}
+use lib.ListN.{length, take}
+use lib.Seq.{sets}
 use Rattle.word.specs.Lists.{flat}
-use Rattle.word.proofs.Lists.{store_step, sets_whole, length_flat}
 use Rattle.state.specs.Layout.{printer_words}
 use Rattle.state.proofs.encode.printer_words.Given as goal
 

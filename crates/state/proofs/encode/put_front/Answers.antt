@@ -1,5 +1,4 @@
 -- `state::encode::put_front` meets its contract: each part is stored where the one before it ends.
-use borrow.Author.Rules.{rules}
 use mathlib.Core.Path.{◌≡◌, refl}
 use mathlib.Core.List.{◌++◌}
 use native.Mathlib.Omega.{arith}
@@ -13,14 +12,13 @@ use Rattle.state.proofs.encode.put_front.Goals as goal
 
 pub returns : goal.returns
 returns c =
-    let start = c in
-    let regs = drop 1 start.args.regs in
-    let core = start.args.core in
-    let rows = start.args.rows in
-    let image = start.args.image.now in
+    let regs = drop 1 c.args.regs in
+    let core = c.args.core in
+    let rows = c.args.rows in
+    let image = c.args.image.now in
     let e₀ = sets_append header (flat word_bytes (regs ++ (core ++ rows))) image 0 in
-    let long : length regs ≡ 31 = simp length-drop (omega (arith, start)) in
+    let long : length regs ≡ 31 = simp length-drop (omega (arith, c)) in
     let whole : take 31 regs ≡ regs = take_all 31 regs (omega (arith, long)) in
     let e₁ = store_append 4 word_bytes (λ w. refl) regs (core ++ rows) (sets image 0 header) 5 129 (omega (arith, long)) in
-    let e₂ = store_append 4 word_bytes (λ w. refl) core rows (sets (sets image 0 header) 5 (flat word_bytes regs)) 129 177 (omega (arith, start)) in
+    let e₂ = store_append 4 word_bytes (λ w. refl) core rows (sets (sets image 0 header) 5 (flat word_bytes regs)) 129 177 (omega (arith, c)) in
     cc

@@ -1,5 +1,4 @@
 -- `state::encode::put_header` meets its contract: five stores.
-use borrow.Author.Rules.{rules}
 use Rattle.state.proofs.encode.put_header.Goals as goal
 
 pub returns : goal.returns

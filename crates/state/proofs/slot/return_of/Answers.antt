@@ -1,5 +1,4 @@
 -- `state::slot::return_of` meets its contract.
-use borrow.Author.Rules.{rules}
 use Rattle.state.proofs.slot.return_of.Goals as goal
 
 pub returns-then-in_slot : goal.returns-then-in_slot
