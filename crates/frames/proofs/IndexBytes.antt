@@ -1,6 +1,6 @@
 -- THE THEOREM IN BYTES: the lent bytes are those of the index worked out afresh, after any steps and take-backs from a reset.
 use Prim.{tt}
-use Rattle.std.proofs.Common.{◌≡◌, ℕ, zero, suc, ◌+◌, ◌*◌, ◌/◌, ◌%◌, ◌^◌, ◌<◌, ◌≤◌, Bool, true, false, cond, ◌&&◌, eqb, ltb, List, [], ◌∷◌, ◌++◌, map, length, get_or, take, drop, set, replicate, sym, refl, ap, ◌∙◌, subst, add_comm, mul-zero, zero-add, mul-suc, arith, lit<, length-append, length-set, get_or-set_other, get_or-set_same, ext_get_or, drop_at, ltb-true}
+use Rattle.std.proofs.Common.{◌≡◌, ℕ, zero, suc, ◌+◌, ◌*◌, ◌/◌, ◌%◌, ◌^◌, ◌<◌, ◌≤◌, Bool, true, false, cond, ◌&&◌, eqb, ltb, List, [], ◌∷◌, ◌++◌, map, length, get_or, take, drop, set, replicate, sym, refl, ap, ◌∙◌, subst, add_comm, mul-zero, mul-suc, arith, lit<, length-append, length-set, get_or-set_other, get_or-set_same, ext_get_or, drop_at, ltb-true}
 use native.Mathlib.Decide.{ℕ_discrete}
 use lib.ListN.{replicate-append-replicate}
 use lib.Seq.{sets, sets-eq}
@@ -13,7 +13,6 @@ use Rattle.ring.proofs.Slots.{next_below, back_below}
 use Rattle.frames.specs.OnHand.{Touch, Event, ran, took, on_hand}
 use Rattle.frames.specs.Afresh.{Index, index_of}
 use Rattle.frames.specs.Keep.{with, Kept, up_to, distance, restored, is_at, replace, replace_all, mark, mark_all, Ledger, dropped, keep, pushed, popped, ledger}
-use Rattle.frames.specs.Bytes as Bytes
 use Rattle.frames.specs.Bytes.{whole, entry_words, entry_bytes, index_bytes, entry_at, put_entry, replace_in, mark_in, replace_all_in, mark_all_in, LedgerIn, dropped_in, keep_in, pushed_in, popped_in, ledger_in, Inside, AllInside}
 use Rattle.frames.specs.declared.Entry.{Entry}
 use Rattle.frames.specs.declared.Entry.TheVariants.{Nothing, At}

@@ -1,6 +1,5 @@
 -- `frames::entry_at` meets its contract.
 use Rattle.frames.proofs.Answers.{entry_some, entry_none}
-use Rattle.std.proofs.Common.{rules}
 use Rattle.frames.proofs.entry_at.Goals as goal
 
 pub returns-then-word_at-eq1 : goal.returns-then-word_at-eq1

@@ -1,5 +1,4 @@
 -- `frames::entry_words` meets its contract.
-use Rattle.std.proofs.Common.{rules}
 use Rattle.frames.proofs.entry_words.Goals as goal
 
 pub returns-in-At : goal.returns-in-At

@@ -1,5 +1,4 @@
 -- `frames::is_at` meets its contract.
-use Rattle.std.proofs.Common.{rules}
 use Rattle.frames.proofs.is_at.Goals as goal
 
 pub returns-in-At : goal.returns-in-At

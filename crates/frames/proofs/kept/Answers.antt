@@ -1,6 +1,5 @@
 -- `frames::kept` meets its contract.
 use Rattle.frames.proofs.Answers.{kept_in, kept_out}
-use Rattle.std.proofs.Common.{rules}
 use Rattle.frames.proofs.kept.Goals as goal
 
 pub returns-then-d-below : goal.returns-then-d-below

@@ -1,5 +1,5 @@
 -- `frames::note` meets its contract.
-use Rattle.std.proofs.Common.{◌≡◌, Bool, sym, ap, ◌∙◌, rules}
+use Rattle.std.proofs.Common.{◌≡◌, Bool, sym, ap, ◌∙◌}
 use Rattle.frames.specs.Bytes.{put_entry, mark_in}
 use Rattle.frames.specs.declared.Entry.TheVariants.{At}
 use Rattle.frames.proofs.Answers.{noted}

@@ -1,5 +1,5 @@
 -- `frames::put_entry` meets its contract.
-use Rattle.std.proofs.Common.{ℕ, ◌*◌, List, ap, ◌∙◌, rules}
+use Rattle.std.proofs.Common.{ℕ, ◌*◌, List, ap, ◌∙◌}
 use lib.Seq.{sets}
 use Rattle.word.specs.Lists.{flat}
 use Rattle.word.specs.Big.{word_bytes}

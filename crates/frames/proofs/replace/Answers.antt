@@ -1,5 +1,5 @@
 -- `frames::replace` meets its contract.
-use Rattle.std.proofs.Common.{◌∙◌, rules}
+use Rattle.std.proofs.Common.{◌∙◌}
 use Rattle.frames.proofs.Answers.{replaced_if, replaced_not}
 use Rattle.frames.proofs.replace.Goals as goal
 

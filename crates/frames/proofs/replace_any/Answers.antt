@@ -1,5 +1,5 @@
 -- `frames::replace_any` meets its contract.
-use Rattle.std.proofs.Common.{arith, rules}
+use Rattle.std.proofs.Common.{arith}
 use Rattle.frames.proofs.Answers.{replaced_outside}
 use Rattle.frames.proofs.replace_any.Goals as goal
 
