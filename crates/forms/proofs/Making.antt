@@ -8,7 +8,6 @@ use Rattle.forms.specs.Fresh.{setting_of, file_of, made_of, after_execution, aft
 use Rattle.piece.specs.declared.mark.Mark.{Mark}
 use Rattle.piece.specs.declared.mark.Count.{Count}
 use Rattle.piece.specs.declared.mark.Named.{Named}
-use Rattle.forms.specs.declared.fresh.Made.{Made}
 
 module _ (line : List ℕ) where
   ended : (ram paper journal scale delay printers : Count) (execution bootstrap : Named) (e : Mark) → e ≡ end_of line bootstrap.mark

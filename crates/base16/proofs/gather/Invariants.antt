@@ -1,5 +1,5 @@
 -- Safe and ending: half of the packet at most, in a buffer that keeps its length.
-use Rattle.std.proofs.Common.{◌≡◌, ◌-◌, ◌≤◌, length, rules}
+use Rattle.std.proofs.Common.{◌≡◌, ◌-◌, ◌≤◌, length}
 use Rattle.base16.proofs.gather.Given as goal
 
 abbrev pub invariant-loop-i : goal.invariant-loop-i

@@ -1,5 +1,5 @@
 -- Safe and ending: each digit is one nearer to the end of the packet.
-use Rattle.std.proofs.Common.{◌-◌, ◌≤◌, length, rules}
+use Rattle.std.proofs.Common.{◌-◌, ◌≤◌, length}
 use Rattle.base16.proofs.number.Given as goal
 
 abbrev pub invariant-loop-at : goal.invariant-loop-at

@@ -1,5 +1,5 @@
 -- Safe and ending: each byte once, in a buffer that keeps its length.
-use Rattle.std.proofs.Common.{◌≡◌, ◌-◌, ◌≤◌, length, rules}
+use Rattle.std.proofs.Common.{◌≡◌, ◌-◌, ◌≤◌, length}
 use Rattle.base16.proofs.spread.Given as goal
 
 abbrev pub invariant-loop-k : goal.invariant-loop-k

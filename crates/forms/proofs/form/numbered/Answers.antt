@@ -1,5 +1,4 @@
 -- `forms::form::numbered` meets its contract.
-use borrow.Author.Rules.{rules}
 use Rattle.forms.proofs.form.numbered.Goals as goal
 
 pub returns : goal.returns

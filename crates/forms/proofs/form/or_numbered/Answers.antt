@@ -1,7 +1,6 @@
 -- `forms::form::or_numbered` meets its contract.
 use mathlib.Core.Path.{refl}
 use Rattle.forms.proofs.Best.{or_both}
-use borrow.Author.Rules.{rules}
 use Rattle.forms.proofs.form.or_numbered.Goals as goal
 
 pub returns : goal.returns

@@ -1,6 +1,5 @@
 -- `forms::form::or_times` meets its contract.
 use Rattle.forms.proofs.Best.{or_else}
-use borrow.Author.Rules.{rules}
 use Rattle.forms.proofs.form.or_times.Goals as goal
 
 pub returns : goal.returns

@@ -1,5 +1,4 @@
 -- `forms::form::plain` meets its contract.
-use borrow.Author.Rules.{rules}
 use Rattle.forms.proofs.form.plain.Goals as goal
 
 pub returns : goal.returns

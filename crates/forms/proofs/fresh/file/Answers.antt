@@ -1,6 +1,5 @@
 -- `forms::fresh::file` meets its contract.
 use Rattle.forms.specs.Fresh.{file_of}
-use borrow.Author.Rules.{rules}
 use Rattle.forms.proofs.fresh.file.Goals as goal
 
 pub returns : goal.returns

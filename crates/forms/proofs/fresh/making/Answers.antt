@@ -1,6 +1,5 @@
 -- `forms::fresh::making` meets its contract.
 use Rattle.forms.proofs.Making.{making_read}
-use borrow.Author.Rules.{rules}
 use Rattle.forms.proofs.fresh.making.Goals as goal
 
 pub returns : goal.returns

@@ -1,6 +1,5 @@
 -- `forms::fresh::setting` meets its contract.
 use Rattle.forms.proofs.Settings.{setting_read, setting_left}
-use borrow.Author.Rules.{rules}
 use Rattle.forms.proofs.fresh.setting.Goals as goal
 
 pub returns-then-tried : goal.returns-then-tried

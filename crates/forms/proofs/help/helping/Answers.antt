@@ -2,7 +2,6 @@
 use mathlib.Core.Path.{ap, ◌∙◌}
 use Rattle.forms.specs.Help.{of_machine, of_station, helping_of}
 use Rattle.forms.proofs.Best.{or_both}
-use borrow.Author.Rules.{rules}
 use Rattle.forms.proofs.help.helping.Goals as goal
 
 pub returns : goal.returns

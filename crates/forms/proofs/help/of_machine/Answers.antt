@@ -1,7 +1,6 @@
 -- `forms::help::of_machine` meets its contract.
 use Rattle.forms.specs.Help.{of_machine}
 use Rattle.forms.proofs.Best.{or_else}
-use borrow.Author.Rules.{rules}
 use Rattle.forms.proofs.help.of_machine.Goals as goal
 
 pub returns : goal.returns

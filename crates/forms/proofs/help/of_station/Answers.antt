@@ -1,7 +1,6 @@
 -- `forms::help::of_station` meets its contract.
 use Rattle.forms.specs.Help.{of_station}
 use Rattle.forms.proofs.Best.{or_else}
-use borrow.Author.Rules.{rules}
 use Rattle.forms.proofs.help.of_station.Goals as goal
 
 pub returns : goal.returns

@@ -1,6 +1,5 @@
 -- `forms::look::behind_slash` meets its contract.
 use Rattle.forms.proofs.Shapes.{shape_plain, shape_slashed}
-use borrow.Author.Rules.{rules}
 use Rattle.forms.proofs.look.behind_slash.Goals as goal
 
 pub returns-then-not-slash : goal.returns-then-not-slash

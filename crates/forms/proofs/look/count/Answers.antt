@@ -1,5 +1,4 @@
 -- `forms::look::count` meets its contract.
-use borrow.Author.Rules.{rules}
 use Rattle.forms.proofs.look.count.Goals as goal
 
 pub returns : goal.returns

@@ -1,5 +1,4 @@
 -- `forms::look::count_of` meets its contract, by cases.
-use borrow.Author.Rules.{rules}
 use Rattle.forms.proofs.look.count_of.Goals as goal
 
 pub returns-in-Value : goal.returns-in-Value

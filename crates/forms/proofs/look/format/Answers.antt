@@ -1,6 +1,5 @@
 -- `forms::look::format` meets its contract, letter by letter.
 use Rattle.forms.specs.Look.{format_of}
-use borrow.Author.Rules.{rules}
 use Rattle.forms.proofs.look.format.Goals as goal
 
 pub returns-then-x : goal.returns-then-x

@@ -1,6 +1,5 @@
 -- `forms::look::looking` meets its contract.
 use Rattle.forms.specs.Look.{looking_of}
-use borrow.Author.Rules.{rules}
 use Rattle.forms.proofs.look.looking.Goals as goal
 
 pub returns : goal.returns

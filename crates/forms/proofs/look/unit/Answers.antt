@@ -1,6 +1,5 @@
 -- `forms::look::unit` meets its contract, letter by letter.
 use Rattle.forms.specs.Look.{unit_of}
-use borrow.Author.Rules.{rules}
 use Rattle.forms.proofs.look.unit.Goals as goal
 
 pub returns-then-b : goal.returns-then-b
