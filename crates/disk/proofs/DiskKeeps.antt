@@ -44,7 +44,7 @@ absent_idle d k busy =
     let h₄ = (both three (eqb d.data1 0) h₃).0 in
     let h₅ = (both (eqb d.status 0 && eqb d.command 0) (eqb d.data0 0) h₄).0 in
     let none : d.status ≡ 0 = eqb-true d.status 0 (both (eqb d.status 0) (eqb d.command 0) h₅).0 in
-    let busy-is : d.status ≡ 3 = eqb-true d.status 3 busy in
+    let busy_is : d.status ≡ 3 = eqb-true d.status 3 busy in
     omega arith
 
 -- a disk that is not busy, installed or not, has nothing left
@@ -81,10 +81,10 @@ module _ (pending : Bool) (delay room : ℕ) (d : Disk) (k : Present pending del
   arrives =
       elim (ℕ_discrete (code_of d.command) 0) [
         | yes zero ↦ rw zero (or_right (has_cylinder d.data1 0))
-        | no not-zero ↦
+        | no not_zero ↦
             elim (ℕ_discrete (code_of d.command) 2) [
               | yes two ↦ rw two (sought two)
-              | no not-two ↦ rw (ne_eqb (code_of d.command) 0 not-zero, ne_eqb (code_of d.command) 2 not-two) k.place
+              | no not_two ↦ rw (ne_eqb (code_of d.command) 0 not_zero, ne_eqb (code_of d.command) 2 not_two) k.place
             ]
       ]
     where

@@ -1,7 +1,7 @@
 -- What is kept of a disk before the step gives it back after its tick, with its bytes. Nothing is asked of the disk: one that is not busy does not tick.
 use Prim.Native.Nat.{ℕ, ◌+◌, ◌-◌, ◌%◌, ◌≤◌}
 use mathlib.Core.Path.{◌≡◌, refl, sym, ap, ◌∙◌}
-use mathlib.Core.Bool.{Bool, true, false, ◌&&◌, ◌||◌, cond}
+use mathlib.Core.Bool.{Bool, true, false, ◌&&◌, cond}
 use mathlib.Core.List.{List}
 use native.Mathlib.Omega.{arith}
 use borrow.Author.Tests.{eqb-true, eq-eqb, le-leb}
@@ -14,7 +14,7 @@ use Rattle.disk.specs.declared.saved.Kept.{Kept}
 use Rattle.disk.specs.Fields.{code_of, in_ram, block_of}
 use Rattle.disk.specs.Four.{four_at, put_four, no_four}
 use Rattle.disk.specs.Tick.{is_busy, is_last, fits, reads, writes, ram_place, disk_place, ended, fallen, disk_ticked, ram_ticked, bytes_ticked}
-use Rattle.disk.specs.Saved.{work_kept, no_kept, kept_of, work_back, given_back, ram_back, bytes_back, is_none, is_still, place_fits, kept_fits}
+use Rattle.disk.specs.Saved.{work_kept, no_kept, kept_of, work_back, given_back, ram_back, bytes_back, kept_fits}
 use Rattle.disk.proofs.Fours.{length_put, put_over, fix_four, four_stays}
 use Rattle.disk.proofs.Places.{fitting, reads_fits, writes_fits, writes_only}
 

@@ -26,9 +26,9 @@ block_inside d e =
     let cylinder : d.cylinder < cylinders data1 = ltb-true d.cylinder (cylinders data1) h.0 in
     let head : headnum d.command < heads data1 = ltb-true (headnum d.command) (heads data1) g.0 in
     let sector : sectnum d.command < sectors data1 = ltb-true (sectnum d.command) (sectors data1) g.1 in
-    let on-track : track < cylinders data1 * heads data1 = below_higher (heads data1) d.cylinder (headnum d.command) head (cylinders data1) cylinder in
-    let on-disk : track * sectors data1 + sectnum d.command < cylinders data1 * heads data1 * sectors data1 =
-    below_higher (sectors data1) track (sectnum d.command) sector (cylinders data1 * heads data1) on-track in
+    let on_track : track < cylinders data1 * heads data1 = below_higher (heads data1) d.cylinder (headnum d.command) head (cylinders data1) cylinder in
+    let on_disk : track * sectors data1 + sectnum d.command < cylinders data1 * heads data1 * sectors data1 =
+    below_higher (sectors data1) track (sectnum d.command) sector (cylinders data1 * heads data1) on_track in
     omega arith
 
 module _ (pending : Bool) (delay room size : ℕ) (d : Disk) (k : present_keeps pending delay room d ≡ true) (busy : is_busy d ≡ true) (own : size_keeps size d ≡ true) where

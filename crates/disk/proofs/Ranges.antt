@@ -93,7 +93,7 @@ module _ (pending : Bool) (delay room : ℕ) (d : Disk) (k : present_keeps pendi
 module _
     (installed pending : Bool) (delay room : ℕ) (d : Disk) (k : disk_keeps installed pending delay room d ≡ true)
     (short : delay < 65536) (word : d.data1 < 2 ^ 32)
-    (ram bytes : List ℕ) (ram_bytes : Below 256 ram) (disk-bytes : Below 256 bytes)
+    (ram bytes : List ℕ) (ram_bytes : Below 256 ram) (disk_bytes : Below 256 bytes)
   where
     here : is_busy d ≡ true → present_keeps pending delay room d ≡ true
     unfolding disk_keeps
@@ -121,7 +121,7 @@ module _
             (cond b
             (cond r (work_kept 2 (ram_place d) (four_at ram (ram_place d)) d) (cond w (work_kept 3 0 (four_at bytes (disk_place d)) d) (work_kept 1 0 no_four d)))
             no_kept)
-        go true e true w = working e 2 (ram_place d) (four_at ram (ram_place d)) (omega arith) (four_bytes ram (ram_place d) ram-bytes)
-        go true e false true = working e 3 0 (four_at bytes (disk_place d)) (omega arith) (four_bytes bytes (disk_place d) disk-bytes)
+        go true e true w = working e 2 (ram_place d) (four_at ram (ram_place d)) (omega arith) (four_bytes ram (ram_place d) ram_bytes)
+        go true e false true = working e 3 0 (four_at bytes (disk_place d)) (omega arith) (four_bytes bytes (disk_place d) disk_bytes)
         go true e false false = working e 1 0 no_four (omega arith) none_bytes
         go false e r w = record { how = omega arith; cylinder = omega arith; ticks = omega arith; words = omega arith; bytes = none_bytes }

@@ -1,5 +1,4 @@
 -- `command::sought_status` meets its contract.
-use borrow.Author.Rules.{rules}
 use Rattle.disk.proofs.command.sought_status.Goals as goal
 
 pub returns : goal.returns

@@ -3,7 +3,6 @@ use mathlib.Core.Path.{refl}
 use native.Mathlib.Omega.{arith}
 use Rattle.disk.specs.Fields.{heads, headnum, sectors, block_of}
 use Rattle.disk.proofs.Places.{small}
-use borrow.Author.Rules.{rules}
 use Rattle.disk.proofs.fields.block_of.Goals as goal
 
 pub overflow_mul-row : goal.overflow_mul-row

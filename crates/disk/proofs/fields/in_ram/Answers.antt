@@ -2,7 +2,6 @@
 use native.Mathlib.Omega.{arith}
 use borrow.Author.Tests.{le-leb}
 use Rattle.disk.proofs.Places.{below_ram}
-use borrow.Author.Rules.{rules}
 use Rattle.disk.proofs.fields.in_ram.Goals as goal
 
 pub returns-then-data0-lt-RAM : goal.returns-then-data0-lt-RAM

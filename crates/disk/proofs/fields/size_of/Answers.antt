@@ -2,7 +2,6 @@
 use native.Mathlib.Omega.{arith}
 use Rattle.disk.specs.Fields.{cylinders, heads, sectors}
 use Rattle.disk.proofs.Places.{small_size}
-use borrow.Author.Rules.{rules}
 use Rattle.disk.proofs.fields.size_of.Goals as goal
 
 pub overflow_mul-result : goal.overflow_mul-result

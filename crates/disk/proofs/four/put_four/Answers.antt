@@ -4,7 +4,6 @@ use mathlib.Core.Path.{◌≡◌}
 use native.Mathlib.Omega.{arith}
 use lib.ListN.{length-set}
 use Rattle.disk.specs.Four.{put_four}
-use borrow.Author.Rules.{rules}
 use Rattle.disk.proofs.four.put_four.Goals as goal
 
 pub bounds-m-at-2 : goal.bounds-m-at-2

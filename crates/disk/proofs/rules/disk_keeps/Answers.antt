@@ -1,6 +1,5 @@
 -- `rules::disk_keeps` meets its contract.
 use Rattle.disk.specs.Rules.{disk_keeps}
-use borrow.Author.Rules.{rules}
 use Rattle.disk.proofs.rules.disk_keeps.Goals as goal
 
 pub returns : goal.returns

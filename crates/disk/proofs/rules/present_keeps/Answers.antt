@@ -1,6 +1,5 @@
 -- `rules::present_keeps` meets its contract.
 use Rattle.disk.specs.Rules.{present_keeps}
-use borrow.Author.Rules.{rules}
 use Rattle.disk.proofs.rules.present_keeps.Goals as goal
 
 pub returns : goal.returns

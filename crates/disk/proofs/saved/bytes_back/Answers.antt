@@ -5,7 +5,6 @@ use lib.Dec.{eqb, leb}
 use lib.ListN.{length}
 use Rattle.word.proofs.Cond.{both}
 use Rattle.disk.specs.Saved.{bytes_back}
-use borrow.Author.Rules.{rules}
 use Rattle.disk.proofs.saved.bytes_back.Goals as goal
 
 pub put_four-requires : goal.put_four-requires

@@ -1,29 +1,26 @@
 -- `saved::keep` meets its contract: what fits lies inside.
-use mathlib.Core.Path.{sym, ap, ◌∙◌}
+use mathlib.Core.Path.{◌≡◌, sym, ap, ◌∙◌}
+use mathlib.Core.Bool.{true}
 use native.Mathlib.Omega.{arith}
 use borrow.Author.Tests.{eq-eqb, ne_eqb}
 use lib.ListN.{length}
 use Prim.Native.Nat.{ℕ, ◌+◌}
+use Rattle.disk.specs.declared.Disk.{Disk}
 use Rattle.disk.specs.declared.four.Four.{Four}
 use Rattle.disk.specs.Fields.{offset_of}
 use Rattle.disk.specs.Four.{four_at}
-use Rattle.disk.specs.Tick.{ram_place}
+use Rattle.disk.specs.Tick.{ram_place, reads, writes}
 use Rattle.disk.specs.Saved.{work_kept}
 use Rattle.disk.proofs.Given.{idle_kept, read_kept, written_kept, still_kept}
 use Rattle.disk.proofs.Places.{Fitting, fitting, reads_fits, writes_fits}
-use borrow.Author.Rules.{rules}
 use Rattle.disk.proofs.saved.keep.Goals as goal
 
 -- what is read or written fits
-read_fits : (c : tie.Then2) → let a = c.args in Fitting (length a.ram.now) (length a.bytes.now) a.d
-read_fits c =
-    let a = c.args in
-    fitting (length a.ram.now) (length a.bytes.now) a.d (reads_fits (length a.ram.now) (length a.bytes.now) a.d (sym c.reads.ensures ∙ c.if-reads.true))
+read_fits : (ram bytes : ℕ) (d : Disk) → reads ram bytes d ≡ true → Fitting ram bytes d
+read_fits ram bytes d on = fitting ram bytes d (reads_fits ram bytes d on)
 
-write-fits : (c : tie.Then3) → let a = c.args in Fitting (length a.ram.now) (length a.bytes.now) a.d
-write-fits c =
-    let a = c.args in
-    fitting (length a.ram.now) (length a.bytes.now) a.d (writes_fits (length a.ram.now) (length a.bytes.now) a.d (sym c.writes.ensures ∙ c.if-writes.true))
+write_fits : (ram bytes : ℕ) (d : Disk) → writes ram bytes d ≡ true → Fitting ram bytes d
+write_fits ram bytes d on = fitting ram bytes d (writes_fits ram bytes d on)
 
 pub returns-then-d-ne-BUSY : goal.returns-then-d-ne-BUSY
 returns-then-d-ne-BUSY c =
@@ -31,13 +28,13 @@ returns-then-d-ne-BUSY c =
     sym (idle_kept a.d a.ram.now a.bytes.now (ne_eqb a.d.status 3 c.if-d-ne-BUSY.true))
 
 pub overflow_sub-place : goal.overflow_sub-place
-overflow_sub-place c = let f = read_fits c in omega arith
+overflow_sub-place c = let a = c.args in let f = read_fits (length a.ram.now) (length a.bytes.now) a.d (sym c.reads.ensures ∙ c.if-reads.true) in omega arith
 
 pub overflow_sub-place-then-reads : goal.overflow_sub-place-then-reads
-overflow_sub-place-then-reads c = let f = read_fits c in omega arith
+overflow_sub-place-then-reads c = let a = c.args in let f = read_fits (length a.ram.now) (length a.bytes.now) a.d (sym c.reads.ensures ∙ c.if-reads.true) in omega arith
 
 pub four_at-word-requires : goal.four_at-word-requires
-four_at-word-requires c = let f = read_fits c in omega arith
+four_at-word-requires c = let a = c.args in let f = read_fits (length a.ram.now) (length a.bytes.now) a.d (sym c.reads.ensures ∙ c.if-reads.true) in omega arith
 
 pub returns-then-reads : goal.returns-then-reads
 returns-then-reads c =
@@ -46,11 +43,11 @@ returns-then-reads c =
     c.work_kept.ensures ∙ ap (λ (f : Four). work_kept 2 (ram_place a.d) f a.d) c.four_at-word.ensures ∙ sym (read_kept a.d a.ram.now a.bytes.now on)
 
 pub overflow_sub-at : goal.overflow_sub-at
-overflow_sub-at c = let f = write-fits c in omega arith
+overflow_sub-at c = let a = c.args in let f = write_fits (length a.ram.now) (length a.bytes.now) a.d (sym c.writes.ensures ∙ c.if-writes.true) in omega arith
 
 pub four_at-word-requires-then-writes : goal.four_at-word-requires-then-writes
 four_at-word-requires-then-writes c =
-    let f = write-fits c in
+    let a = c.args in let f = write_fits (length a.ram.now) (length a.bytes.now) a.d (sym c.writes.ensures ∙ c.if-writes.true) in
     let e = c.block_of.ensures.place_is in
     omega arith
 

@@ -1,6 +1,5 @@
 -- `saved::kept_fits` meets its contract.
 use Rattle.disk.specs.Saved.{kept_fits}
-use borrow.Author.Rules.{rules}
 use Rattle.disk.proofs.saved.kept_fits.Goals as goal
 
 pub returns : goal.returns

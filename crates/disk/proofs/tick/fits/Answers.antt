@@ -1,5 +1,4 @@
 -- `tick::fits` meets its contract.
-use borrow.Author.Rules.{rules}
 use Rattle.disk.proofs.tick.fits.Goals as goal
 
 pub returns : goal.returns

@@ -1,11 +1,10 @@
 -- `tick::is_last` meets its contract.
 use mathlib.Core.Path.{sym, ap, ◌∙◌}
 use Rattle.disk.specs.Fields.{is_transfer}
-use borrow.Author.Rules.{rules}
 use Rattle.disk.proofs.tick.is_last.Goals as goal
 
 pub returns-then-is_transfer : goal.returns-then-is_transfer
-returns-then-is_transfer c = rw (sym (c.is_transfer.ensures ∙ ap is_transfer c.code_of_lem.ensures) ∙ c.if-is_transfer.true)
+returns-then-is_transfer c = rw (sym (c.is_transfer.ensures ∙ ap is_transfer c.code_of.ensures) ∙ c.if-is_transfer.true)
 
 pub returns : goal.returns
-returns c = rw (sym (c.is_transfer.ensures ∙ ap is_transfer c.code_of_lem.ensures) ∙ c.if-is_transfer.false)
+returns c = rw (sym (c.is_transfer.ensures ∙ ap is_transfer c.code_of.ensures) ∙ c.if-is_transfer.false)

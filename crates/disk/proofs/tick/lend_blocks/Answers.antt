@@ -1,6 +1,5 @@
 -- `tick::lend_blocks` meets its contract: a word of the two parts is one of the two wholes.
 use Rattle.disk.proofs.Blocks.{home}
-use borrow.Author.Rules.{rules}
 use Rattle.disk.proofs.tick.lend_blocks.Goals as goal
 
 pub returns : goal.returns

@@ -2,7 +2,6 @@
 use borrow.Author.Tests.{eq-eqb, ne_eqb}
 use mathlib.Core.Path.{sym, ◌∙◌}
 use Rattle.disk.specs.Tick.{disk_ticked, ram_ticked, bytes_ticked}
-use borrow.Author.Rules.{rules}
 use Rattle.disk.proofs.tick.tick_one.Goals as goal
 
 pub returns-then-d-ne-BUSY : goal.returns-then-d-ne-BUSY

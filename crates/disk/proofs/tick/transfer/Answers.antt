@@ -3,7 +3,6 @@ use mathlib.Core.Path.{sym, ◌∙◌}
 use lib.ListN.{length}
 use Rattle.disk.specs.Tick.{ram_ticked, bytes_ticked}
 use Rattle.disk.proofs.Places.{reads_fits, writes_fits, reads_only}
-use borrow.Author.Rules.{rules}
 use Rattle.disk.proofs.tick.transfer.Goals as goal
 
 pub read_word-requires : goal.read_word-requires

@@ -2,7 +2,6 @@
 use native.Mathlib.Omega.{arith}
 use lib.ListN.{length}
 use Rattle.disk.proofs.Places.{fitting}
-use borrow.Author.Rules.{rules}
 use Rattle.disk.proofs.tick.write_word.Goals as goal
 
 pub overflow_sub-frame : goal.overflow_sub-frame

@@ -2,7 +2,6 @@
 use mathlib.Core.Path.{refl}
 use Rattle.word.specs.Little.{to_bytes}
 use Rattle.disk.specs.Words.{four_from}
-use borrow.Author.Rules.{rules}
 use Rattle.disk.proofs.words.four_from.Goals as goal
 
 pub returns : goal.returns

@@ -2,7 +2,6 @@
 use native.Mathlib.Omega.{arith}
 use Rattle.word.specs.Little.{from_bytes}
 use Rattle.disk.specs.Words.{four_word}
-use borrow.Author.Rules.{rules}
 use Rattle.disk.proofs.words.four_word.Goals as goal
 
 pub returns : goal.returns

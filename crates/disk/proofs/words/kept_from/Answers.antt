@@ -1,6 +1,5 @@
 -- `words::kept_from` meets its contract.
 use Rattle.disk.specs.Words.{kept_from}
-use borrow.Author.Rules.{rules}
 use Rattle.disk.proofs.words.kept_from.Goals as goal
 
 pub returns : goal.returns

@@ -1,6 +1,5 @@
 -- `words::put_kept` meets its contract.
 use Rattle.disk.proofs.KeptWords.{store_words}
-use borrow.Author.Rules.{rules}
 use Rattle.disk.proofs.words.put_kept.Goals as goal
 
 pub returns : goal.returns
