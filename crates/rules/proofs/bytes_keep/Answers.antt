@@ -1,5 +1,4 @@
 -- `rules::bytes_keep` meets its contract, from what its two tests ensure.
-use borrow.Author.Rules.{rules}
 use Rattle.rules.proofs.bytes_keep.Goals as goal
 
 pub returns : goal.returns

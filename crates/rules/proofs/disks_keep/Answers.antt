@@ -1,11 +1,7 @@
 -- `rules::disks_keep` meets its contract. The invariant: `ok` says whether every byte passed is 0.
 use mathlib.Core.Path.{◌≡◌, refl}
-use Prim.Native.Nat.{ℕ, ◌+◌, ◌-◌, ◌≤◌}
 use native.Mathlib.Omega.{arith}
 use native.Mathlib.Numerals.{add-one}
-use lib.Dec.{eqb}
-use lib.ListN.{get_or}
-use Rattle.word.specs.Lists.{every}
 use Rattle.rules.proofs.disks_keep.Goals as goal
 
 pub loop-k-init : goal.loop-k-init

@@ -1,8 +1,6 @@
 -- `rules::disks_keep` meets its contract. The invariant: `ok` says whether every byte passed is 0.
-use mathlib.Core.Path.{◌≡◌, refl}
+use mathlib.Core.Path.{◌≡◌}
 use Prim.Native.Nat.{ℕ, ◌+◌, ◌-◌, ◌≤◌}
-use native.Mathlib.Omega.{arith}
-use native.Mathlib.Numerals.{add-one}
 use lib.Dec.{eqb}
 use lib.ListN.{get_or}
 use Rattle.word.specs.Lists.{every}

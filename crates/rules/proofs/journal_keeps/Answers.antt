@@ -1,5 +1,4 @@
 -- `rules::journal_keeps` meets its contract: the code's term is the definition's.
-use borrow.Author.Rules.{rules}
 use mathlib.Core.Path.{refl}
 use Rattle.rules.proofs.journal_keeps.Goals as goal
 

@@ -1,5 +1,4 @@
 -- `rules::judged` meets its contract: the machine is what `decode` ensures, and the answer what the two tests ensure.
-use borrow.Author.Rules.{rules}
 use Rattle.rules.specs.Rules.{keeps_rules}
 use Rattle.rules.proofs.judged.Goals as goal
 

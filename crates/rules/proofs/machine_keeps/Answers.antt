@@ -1,5 +1,4 @@
 -- `rules::machine_keeps` meets its contract, from what its two tests ensure.
-use borrow.Author.Rules.{rules}
 use Rattle.rules.specs.Rules.{machine_keeps}
 use Rattle.rules.proofs.machine_keeps.Goals as goal
 

@@ -1,5 +1,4 @@
 -- `rules::state_keeps` meets its contract, test by test.
-use borrow.Author.Rules.{rules}
 use Rattle.rules.specs.Rules.{state_keeps}
 use Rattle.rules.proofs.state_keeps.Goals as goal
 

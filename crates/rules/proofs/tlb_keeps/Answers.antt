@@ -1,11 +1,7 @@
 -- `rules::tlb_keeps` meets its contract. The invariant: `ok` says whether every row passed keeps the rule.
-use borrow.Author.Rules.{rules}
 use mathlib.Core.Path.{◌≡◌, refl}
-use Prim.Native.Nat.{◌-◌, ◌≤◌}
 use native.Mathlib.Omega.{arith}
 use native.Mathlib.Numerals.{add-one}
-use Rattle.word.specs.Lists.{every}
-use Rattle.rules.specs.Rules.{row_keeps}
 use Rattle.rules.proofs.tlb_keeps.Goals as goal
 
 pub loop-i-init : goal.loop-i-init
