@@ -1,6 +1,6 @@
 -- Every device register has its own place in the area, and document 01's marked example.
-use Prim.Native.Nat.{ℕ, ◌+◌, ◌≤◌, ◌<◌}
-use mathlib.Core.Path.{◌≡◌, refl}
+use Prim.Native.Nat.{ℕ, ◌≤◌, ◌<◌}
+use mathlib.Core.Path.{◌≡◌}
 use native.Mathlib.Omega.{arith}
 use Rattle.bus.specs.Offset.{offset_of, line_of, number_of, field_of}
 

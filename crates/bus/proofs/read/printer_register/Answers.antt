@@ -4,7 +4,6 @@ use mathlib.Core.List.{[], ◌∷◌}
 use native.Mathlib.Omega.{arith}
 use Rattle.bus.specs.Words.{registers_of}
 use Rattle.word.proofs.Rest.{rest}
-use borrow.Author.Rules.{rules}
 use Rattle.bus.proofs.read.printer_register.Goals as goal
 
 pub returns-in_default : goal.returns-in_default

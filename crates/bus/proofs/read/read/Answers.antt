@@ -6,7 +6,6 @@ use mathlib.Core.Path.{sym, ap, ◌∙◌}
 use borrow.Author.Tests.{eq-eqb, ne_eqb, le-leb, lt-leb}
 use Rattle.bus.specs.Words.{registers_of, bus_word_of}
 use Rattle.bus.specs.Offset.{line_of, field_of}
-use borrow.Author.Rules.{rules}
 use Rattle.bus.proofs.read.read.Goals as goal
 
 pub returns-then-offset-lt-DEVICES : goal.returns-then-offset-lt-DEVICES

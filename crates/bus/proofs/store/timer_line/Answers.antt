@@ -1,5 +1,4 @@
 -- `bus::store::timer_line` meets its contract, by cases.
-use borrow.Author.Rules.{rules}
 use Rattle.bus.proofs.store.timer_line.Goals as goal
 
 pub returns-in-Timer : goal.returns-in-Timer

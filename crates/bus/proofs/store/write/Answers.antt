@@ -3,7 +3,6 @@ use mathlib.Core.Path.{sym, ◌∙◌}
 use borrow.Author.Tests.{eq-eqb, ne_eqb, le-leb, lt-leb}
 use Rattle.bus.specs.Offset.{line_of}
 use Rattle.bus.specs.Store.{bus_write_of}
-use borrow.Author.Rules.{rules}
 use Rattle.bus.proofs.store.write.Goals as goal
 
 pub returns-then-offset-eq32 : goal.returns-then-offset-eq32
