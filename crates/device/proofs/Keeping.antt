@@ -70,8 +70,8 @@ module _ {D : Type 0} (none : D) (keeps : Bool → Bool → D → Bool) (install
         (stays : (i on : Bool) (d : D) → keeps i on d ≡ true → keeps i (cond (finishes d) true on) (ticked d) ≡ true)
       where
         -- a bit that is on after the tick was on before, or its device finished
-        ticked-owned : (n : ℕ) → (bit n pending ≡ true → bit n installed ≡ true) → bit n (pending_to none finishes ticked devices line pending) ≡ true → bit n installed ≡ true
-        ticked-owned n was on =
+        ticked_owned : (n : ℕ) → (bit n pending ≡ true → bit n installed ≡ true) → bit n (pending_to none finishes ticked devices line pending) ≡ true → bit n installed ≡ true
+        ticked_owned n was on =
             elim (dec_lt n 8) [
               | yes low ↦ go low (finishes (get_or line n none)) refl (sym (pending_passed none ticked line finishes pending 8 n low) ∙ on)
               | no high ↦ was (sym (pending_before none ticked line finishes pending 8 n (omega arith)) ∙ on)
@@ -81,10 +81,10 @@ module _ {D : Type 0} (none : D) (keeps : Bool → Bool → D → Bool) (install
             go low true e on = here (bit n installed) (bit n pending) (get_or line n none) (k.each n low) e
             go low false e on = was on
 
-        pub tick-keeps : Keeps none keeps installed (ticked_to none ticked devices line) (pending_to none finishes ticked devices line pending)
-        tick-keeps = record {
+        pub tick_keeps : Keeps none keeps installed (ticked_to none ticked devices line) (pending_to none finishes ticked devices line pending)
+        tick_keeps = record {
           eight = length_to none ticked line 8 ∙ k.eight;
-          owned = still_owned installed pending (pending_to none finishes ticked devices line pending) k.owned ticked-owned;
+          owned = still_owned installed pending (pending_to none finishes ticked devices line pending) k.owned ticked_owned;
           each = λ n h.
               let inside : n < length line = rw k.eight h in
               rw (passed none ticked line 8 n h inside, pending_passed none ticked line finishes pending 8 n h)
@@ -93,7 +93,7 @@ module _ {D : Type 0} (none : D) (keeps : Bool → Bool → D → Bool) (install
 
     -- ---- a write: an installed device and its pending bit anew, the others as they were
 
-    module _ (n : ℕ) (in-line : n < 8) (d : D) (here : bit n installed ≡ true) where
+    module _ (n : ℕ) (in_line : n < 8) (d : D) (here : bit n installed ≡ true) where
       pub one_anew : (on : Bool) → keeps (bit n installed) on d ≡ true → Keeps none keeps installed (set line n d) (with_bit n on pending)
       one_anew on h = record {
         eight = length-set line n d ∙ k.eight;
@@ -107,7 +107,7 @@ module _ {D : Type 0} (none : D) (keeps : Bool → Bool → D → Bool) (install
 
           by : (m : ℕ) → m < 8 → Dec (m ≡ n) → keeps (bit m installed) (bit m (with_bit n on pending)) (get_or (set line n d) m none) ≡ true
           by m l (yes e) =
-              let inside : n < length line = rw k.eight in-line in
+              let inside : n < length line = rw k.eight in_line in
               rw (e, bit_told n on pending, get_or-set_same line n d none inside) h
           by m l (no ne) = rw (bit_other n m on pending ne, get_or-set_other line n m d none ne) (k.each m l)
 

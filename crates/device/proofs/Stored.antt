@@ -64,8 +64,8 @@ module _ {D : Type 0} (none : D) (k : ℕ) (words_of : D → List ℕ) (from : (
     abbrev pub line_in : List ℕ → List D
     line_in words = tabulate devices (device_in words)
 
-    pub device-at : (words : List ℕ) (n : ℕ) → n < 8 → get_or (line_in words) n none ≡ device_in words n
-    device-at words n few = get_d_tabulate 8 (device_in words) n none few
+    pub device_at : (words : List ℕ) (n : ℕ) → n < 8 → get_or (line_in words) n none ≡ device_in words n
+    device_at words n few = get_d_tabulate 8 (device_in words) n none few
 
     module _ (words : List ℕ) (n : ℕ) (d : D) (all : length words ≡ k * 8) (few : n < 8) where
       abbrev after : List ℕ
@@ -86,7 +86,7 @@ module _ {D : Type 0} (none : D) (k : ℕ) (words_of : D → List ℕ) (from : (
       one_of i l (yes e) =
           let here : n < length (line_in words) = rw (length_tabulate 8 (device_in words)) few in
           rw e (mine ∙ sym (get_or-set_same (line_in words) n d none here))
-      one_of i l (no apart) = others i apart ∙ sym (get_or-set_other (line_in words) n i d none apart ∙ device-at words i l)
+      one_of i l (no apart) = others i apart ∙ sym (get_or-set_other (line_in words) n i d none apart ∙ device_at words i l)
 
       -- of the eight, the one put back alone is another
       pub stored : line_in after ≡ set (line_in words) n d

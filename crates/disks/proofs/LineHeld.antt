@@ -14,8 +14,7 @@ use Rattle.device.proofs.Stored as device
 use Rattle.disk.specs.declared.Disk.{Disk}
 use Rattle.disk.specs.declared.tick.One.{One}
 use Rattle.disk.specs.Tick.{no_disk, is_busy, is_last, finishes, disk_ticked, ram_ticked, bytes_ticked, OneIs}
-use Rattle.disk.specs.Command.{status_of, is_refused, commanded_of, with_data}
-use Rattle.disks.specs.declared.Line.{Line}
+use Rattle.disk.specs.Command.{is_refused, commanded_of, with_data}
 use Rattle.disks.specs.Tick.{turned, turn_of}
 use Rattle.disks.specs.Command.{command_of, data_of}
 use Rattle.disks.specs.Words.{disk_words, disk_from, disk_in, disks_in, line_in, takes_in, TurnIs, CommandIs, DataIs}
@@ -32,7 +31,7 @@ first_word words n = ap (λ (k : ℕ). get_or words k 0) (add-zero (7 * n))
 
 pub disk_at : (words : List ℕ) (n : ℕ) → n < 8 → get_or (disks_in words) n no_disk ≡ disk_in words n
 unfolding disks_in
-disk_at words n few = device.device-at no_disk 7 disk_words disk_from (λ d. refl) same (λ d. refl) words n few
+disk_at words n few = device.device_at no_disk 7 disk_words disk_from (λ d. refl) same (λ d. refl) words n few
 
 -- whether a disk finishes is told by STATUS, and then by what is left
 pub not_ending : (words : List ℕ) (n : ℕ) → (get_or words (7 * n) 0 ≡ 3 → ⊥) → false ≡ finishes (disk_in words n)

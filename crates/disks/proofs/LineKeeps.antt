@@ -29,12 +29,12 @@ pub tick_keeps : (installed delay : ℕ) (s : Spinning) → Keeps installed dela
     Keeps installed delay (length (ticked_of s).ram) (ticked_of s).line
 tick_keeps installed delay s k =
     rw (length_ticks s 8, disks_told s 8, pending_told s 8)
-    (device.tick-keeps no_disk (keeps_of delay (length s.ram)) installed s.line.disks s.line.pending k finishes disk_ticked
+    (device.tick_keeps no_disk (keeps_of delay (length s.ram)) installed s.line.disks s.line.pending k finishes disk_ticked
     (finisher_here delay (length s.ram)) (λ i on d h. ticked_keeps delay (length s.ram) d i on h))
 
 -- ---- a write to disk n
 
-module _ (installed delay room n : ℕ) (line : Line) (k : Keeps installed delay room line) (in-line : n < 8) where
+module _ (installed delay room n : ℕ) (line : Line) (k : Keeps installed delay room line) (in_line : n < 8) where
   abbrev d : Disk
   d = get_or line.disks n no_disk
 
@@ -43,7 +43,7 @@ module _ (installed delay room n : ℕ) (line : Line) (k : Keeps installed delay
   unfolding disk_keeps
   taker e =
       let h = both (bit n installed) (not (is_busy d)) e in
-      let keeps = rw h.0 at (k.each n in-line) in
+      let keeps = rw h.0 at (k.each n in_line) in
       (h.0, not-true (is_busy d) h.1, present (bit n line.pending) delay room d keeps)
 
   -- A command keeps the rules.
@@ -57,7 +57,7 @@ module _ (installed delay room n : ℕ) (line : Line) (k : Keeps installed delay
       go false e = k
       go true e =
           let t = taker e in
-          device.one_anew no_disk (keeps_of delay room) installed line.disks line.pending k n in-line (commanded_of delay room word d) t.0 (is_refused (status_of room word d))
+          device.one_anew no_disk (keeps_of delay room) installed line.disks line.pending k n in_line (commanded_of delay room word d) t.0 (is_refused (status_of room word d))
           (rw t.0 (commanded_keeps (bit n line.pending) delay room d t.2 t.1 word some))
 
   -- A write of DATA0 keeps the rules.
@@ -70,7 +70,7 @@ module _ (installed delay room n : ℕ) (line : Line) (k : Keeps installed delay
       go false e = k
       go true e =
           let t = taker e in
-          device.same_anew no_disk (keeps_of delay room) installed line.disks line.pending k n in-line (with_data word d) t.0
+          device.same_anew no_disk (keeps_of delay room) installed line.disks line.pending k n in_line (with_data word d) t.0
           (rw t.0 (with_data_keeps (bit n line.pending) delay room d t.2 t.1 word))
 
 -- ---- the test says what the rules say

@@ -16,7 +16,7 @@ use Rattle.disk.specs.declared.Disk.{Disk}
 use Rattle.disk.specs.declared.saved.Kept.{Kept}
 use Rattle.disk.specs.Tick.{no_disk, is_busy}
 use Rattle.disk.specs.Saved.{no_kept}
-use Rattle.disk.specs.Words.{four_word, kept_words, kept_from, Ranged}
+use Rattle.disk.specs.Words.{four_word, kept_words, Ranged}
 use Rattle.word.specs.Little.{from_bytes}
 use Rattle.disk.proofs.Given.{idle_kept}
 use Rattle.disk.proofs.KeptWords.{words_back, kept_back}

@@ -2,7 +2,6 @@
 use Prim.Native.Nat.{ℕ, ◌^◌, ◌<◌}
 use mathlib.Core.Path.{◌≡◌}
 use mathlib.Core.Bool.{true}
-use lib.ListN.{get_or}
 use Rattle.word.specs.Lists.{Below}
 use Rattle.word.specs.Map.{bit}
 use Rattle.disk.specs.Saved.{kept_fits}

@@ -67,7 +67,7 @@ module _
     abbrev s8 : Spinning
     s8 = spinning l7 r7 (eight c0 c1 c2 c3 c4 c5 c6 c7)
 
-    pub eight-turns :
+    pub eight_turns :
         turned l0 r0 c0 ≡ turn_of 0 l r b0 →
         turned l1 r1 c1 ≡ turn_of 1 l0 r0 b1 →
         turned l2 r2 c2 ≡ turn_of 2 l1 r1 b2 →
@@ -78,7 +78,7 @@ module _
         turned l7 r7 c7 ≡ turn_of 7 l6 r6 b7 →
         s8 ≡ ticked_of s0
     unfolding ticks
-    eight-turns h0 h1 h2 h3 h4 h5 h6 h7 =
+    eight_turns h0 h1 h2 h3 h4 h5 h6 h7 =
         let t1 : ticks 1 s0 ≡ s1 = turn_on 0 s0 l0 r0 c0 h0 in
         let t2 : ticks 2 s0 ≡ s2 = ap (tick_one 1) t1 ∙ turn_on 1 s1 l1 r1 c1 h1 in
         let t3 : ticks 3 s0 ≡ s3 = ap (tick_one 2) t2 ∙ turn_on 2 s2 l2 r2 c2 h2 in
@@ -129,7 +129,7 @@ module _
     abbrev g0 : Spinning
     g0 = spinning l0 r0 (eight c0 c1 c2 c3 c4 c5 c6 c7)
 
-    pub eight-backs :
+    pub eight_backs :
         turned l7 r7 c7 ≡ back_of 7 (get_or kept 7 no_kept) l r b7 →
         turned l6 r6 c6 ≡ back_of 6 (get_or kept 6 no_kept) l7 r7 b6 →
         turned l5 r5 c5 ≡ back_of 5 (get_or kept 5 no_kept) l6 r6 b5 →
@@ -140,7 +140,7 @@ module _
         turned l0 r0 c0 ≡ back_of 0 (get_or kept 0 no_kept) l1 r1 b0 →
         with_pending pending g0 ≡ undo_of (record { kept = kept; pending = pending }) g8
     unfolding backs undo_of
-    eight-backs h7 h6 h5 h4 h3 h2 h1 h0 =
+    eight_backs h7 h6 h5 h4 h3 h2 h1 h0 =
         let t7 : backs 8 kept g8 ≡ backs 7 kept g7 = ap (backs 7 kept) (back_on 7 (get_or kept 7 no_kept) g8 l7 r7 c7 h7) in
         let t6 : backs 7 kept g7 ≡ backs 6 kept g6 = ap (backs 6 kept) (back_on 6 (get_or kept 6 no_kept) g7 l6 r6 c6 h6) in
         let t5 : backs 6 kept g6 ≡ backs 5 kept g5 = ap (backs 5 kept) (back_on 5 (get_or kept 5 no_kept) g6 l5 r5 c5 h5) in

@@ -13,8 +13,8 @@ use Rattle.word.proofs.Lists.{get_d_tabulate, tabulate_ext, tabulate_get_d}
 use Rattle.disk.specs.declared.Disk.{Disk}
 use Rattle.disk.specs.declared.four.Four.{Four}
 use Rattle.disk.specs.Four.{four_at, put_four}
-use Rattle.disk.specs.Tick.{no_disk, reads, ram_place, disk_place, disk_ticked, ram_ticked, bytes_ticked}
-use Rattle.disk.specs.Saved.{no_kept, kept_of, given_back, ram_back, bytes_back}
+use Rattle.disk.specs.Tick.{no_disk, reads, ram_place, disk_place, ram_ticked, bytes_ticked}
+use Rattle.disk.specs.Saved.{no_kept, given_back}
 use Rattle.disk.proofs.Fours.{length_put, put_over, fix_four, fours_swap, four_stays}
 use Rattle.disk.proofs.Given.{disk_back, ram_given, bytes_back_lem}
 use Rattle.disks.specs.Tick.{Spinning, spinning, ticks, ticked_of}
@@ -88,11 +88,11 @@ module _ (s : Spinning) where
   abbrev pub Back : ℕ → Disk → Type 0
   Back n d = given_back (kept_at s n) d ≡ old s n
 
-  module _ (stores-eight : length s.stores ≡ 8) where
+  module _ (stores_eight : length s.stores ≡ 8) where
     -- the bytes of disk n, as its tick left them, and put back at their place
     store_there : (n : ℕ) → n < 8 → get_or (ticks (suc n) s).stores n [] ≡ bytes_ticked (old s n) (ticks n s).ram (store s n)
     store_there n h =
-        let inside : n < length (ticks n s).stores = rw (length_stores s n, stores-eight) h in
+        let inside : n < length (ticks n s).stores = rw (length_stores s n, stores_eight) h in
         rw (stores_on s n) (get_or-set_same (ticks n s).stores n (bytes_ticked (old s n) (ticks n s).ram (store s n)) [] inside)
 
     stores_before : (n : ℕ) → set (ticks (suc n) s).stores n (store s n) ≡ (ticks n s).stores
@@ -115,14 +115,14 @@ module _ (s : Spinning) where
           stores_before n,
         )
 
-    module _ (disks-eight : length s.line.disks ≡ 8) where
+    module _ (disks_eight : length s.line.disks ≡ 8) where
       all_undone : (n : ℕ) (disks : List Disk) (pending : ℕ) (ram : List ℕ) → n ≤ 8 → length disks ≡ 8 → length ram ≡ length s.ram →
           ((m : ℕ) → m < n → Back m (get_or disks m no_disk)) → ((m : ℕ) → n ≤ m → m < 8 → get_or disks m no_disk ≡ old s m) →
           backs n (note_of s).kept (part n disks pending ram) ≡ spinning (record { disks = s.line.disks; pending = pending }) (fix_ram n ram) s.stores
       unfolding backs ticks
       all_undone zero disks pending ram h l r back done =
           ap (λ (l : List Disk). spinning (record { disks = l; pending = pending }) ram s.stores)
-          (same_eight disks s.line.disks l disks-eight (λ m few. done m (omega arith) few))
+          (same_eight disks s.line.disks l disks_eight (λ m few. done m (omega arith) few))
       all_undone (suc n) disks pending ram h l r back done =
           rw (get_d_tabulate 8 (kept_at s) n no_kept (omega arith))
           (ap (backs n (note_of s).kept) (one_undone n disks pending ram (omega arith) r (back n (omega arith)))
@@ -145,11 +145,11 @@ module _ (s : Spinning) where
 
       pub ticked_back : (m : ℕ) → m < 8 → Back m (get_or (ticked_of s).line.disks m no_disk)
       ticked_back m h =
-          let inside : m < length s.line.disks = rw disks-eight h in
+          let inside : m < length s.line.disks = rw disks_eight h in
           ap (given_back (kept_at s m)) (passed s 8 m h inside) ∙ disk_back (old s m) s.ram (store s m)
 
       pub ticked_eight : length (ticked_of s).line.disks ≡ 8
-      ticked_eight = length_disks s 8 ∙ disks-eight
+      ticked_eight = length_disks s 8 ∙ disks_eight
 
       -- The tick of all eight is taken back.
       pub undo_tick : undo_of (note_of s) (ticked_of s) ≡ s

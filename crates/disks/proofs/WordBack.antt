@@ -5,7 +5,6 @@ use mathlib.Core.Path.{◌≡◌, refl, sym, ap, ◌∙◌}
 use mathlib.Core.Bool.{Bool, true, false, not, cond, ◌&&◌}
 use mathlib.Core.List.{List}
 use native.Mathlib.Decide.{ℕ_discrete}
-use native.Mathlib.Omega.{arith}
 use borrow.Author.Tests.{eqb-true}
 use lib.Dec.{eqb}
 use lib.ListN.{length, get_or, set, length-set}
@@ -31,7 +30,7 @@ alike : {x y : Disk} → x.status ≡ y.status → x.command ≡ y.command → x
 alike {x} {y} a b c d e f g =
     λ i. record { status = a i; command = b i; data0 = c i; data1 = d i; ticks = e i; words = f i; cylinder = g i }
 
-module _ (installed delay room : ℕ) (s : Spinning) (k : Keeps installed delay room s.line) (stores-eight : length s.stores ≡ 8) (n : ℕ) (in-line : n < 8) where
+module _ (installed delay room : ℕ) (s : Spinning) (k : Keeps installed delay room s.line) (stores_eight : length s.stores ≡ 8) (n : ℕ) (in_line : n < 8) where
   -- disk n before the step
   abbrev d : Disk
   d = old s n
@@ -52,7 +51,7 @@ module _ (installed delay room : ℕ) (s : Spinning) (k : Keeps installed delay 
       go : (busy : Bool) → is_busy d ≡ busy → Back s n (word_back of_data (word_of of_data d) d.status x)
       go true e = busy_back d s.ram (store s n) e (word_back of_data (word_of of_data d) d.status x) (same of_data x b)
       go false e =
-          let left = both (eqb d.ticks 0) (eqb d.words 0) (nothing_left (bit n installed) (bit n s.line.pending) delay room d (k.each n in-line) e) in
+          let left = both (eqb d.ticks 0) (eqb d.words 0) (nothing_left (bit n installed) (bit n s.line.pending) delay room d (k.each n in_line) e) in
           let w = same of_data x b in
           idle_back d s.ram (store s n) e (word_back of_data (word_of of_data d) d.status x)
           ∙ alike refl w.command w.data0 w.data1 (sym (eqb-true d.ticks 0 left.0)) (sym (eqb-true d.words 0 left.1))
@@ -64,7 +63,7 @@ module _ (installed delay room : ℕ) (s : Spinning) (k : Keeps installed delay 
   disks = (ticked_of s).line.disks
 
   inside : n < length disks
-  inside = rw (ticked_eight s stores-eight k.eight) in-line
+  inside = rw (ticked_eight s stores_eight k.eight) in_line
 
   abbrev undone : Bool → Line → Spinning
   undone of_data line = undo_of (note_of s) (spinning (undo_word of_data n (word_of of_data d) d.status line) (ticked_of s).ram (ticked_of s).stores)
@@ -73,8 +72,8 @@ module _ (installed delay room : ℕ) (s : Spinning) (k : Keeps installed delay 
   unfolding undo_word
   word_undone of_data x pending b =
       rw (get_or-set_same disks n x no_disk inside, set-set disks n x (word_back of_data (word_of of_data d) d.status x))
-      (undo_after s stores-eight k.eight (set disks n (word_back of_data (word_of of_data d) d.status x)) pending (ticked_of s).ram
-      (length-set disks n (word_back of_data (word_of of_data d) d.status x) ∙ ticked_eight s stores-eight k.eight)
+      (undo_after s stores_eight k.eight (set disks n (word_back of_data (word_of of_data d) d.status x)) pending (ticked_of s).ram
+      (length-set disks n (word_back of_data (word_of of_data d) d.status x) ∙ ticked_eight s stores_eight k.eight)
       (λ m few. back m few (ℕ_discrete m n)) (length_ticks s 8) (ram_back_lem s 8))
     where
       back : (m : ℕ) → m < 8 → Dec (m ≡ n) → Back s m (get_or (set disks n (word_back of_data (word_of of_data d) d.status x)) m no_disk)
@@ -82,11 +81,11 @@ module _ (installed delay room : ℕ) (s : Spinning) (k : Keeps installed delay 
           rw (e, get_or-set_same disks n (word_back of_data (word_of of_data d) d.status x) no_disk inside) (given of_data x b)
       back m few (no ne) =
           ap (given_back (kept_at s m)) (get_or-set_other disks n m (word_back of_data (word_of of_data d) d.status x) no_disk ne)
-          ∙ ticked_back s stores-eight k.eight m few
+          ∙ ticked_back s stores_eight k.eight m few
 
   -- the disk that the store finds
   found : get_or disks n no_disk ≡ disk_ticked d
-  found = let there : n < length s.line.disks = rw k.eight in-line in passed s 8 n in-line there
+  found = let there : n < length s.line.disks = rw k.eight in_line in passed s 8 n in_line there
 
   beside_ticked : (of_data : Bool) → Beside of_data (disk_ticked d)
   beside_ticked true = record { other = (ticked_same d).command; data1 = (ticked_same d).data1; cylinder = refl }

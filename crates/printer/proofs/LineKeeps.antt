@@ -28,12 +28,12 @@ pub tick_keeps : (installed delay : ℕ) (s : Printing) → Keeps installed dela
     Keeps installed delay (room_of (ticked_of s).paper) (ticked_of s).line
 tick_keeps installed delay s k =
     rw (room_ticks s 8, printers_told s 8, pending_told s 8)
-    (device.tick-keeps no_printer (keeps_of delay (room_of s.paper)) installed s.line.printers s.line.pending k finishes (printer_ticked (room_of s.paper))
+    (device.tick_keeps no_printer (keeps_of delay (room_of s.paper)) installed s.line.printers s.line.pending k finishes (printer_ticked (room_of s.paper))
     (finisher_here delay (room_of s.paper)) (λ i on p h. ticked_keeps delay (room_of s.paper) p i on h))
 
 -- ---- a write to printer n
 
-module _ (installed delay room n : ℕ) (line : Line) (k : Keeps installed delay room line) (in-line : n < 8) where
+module _ (installed delay room n : ℕ) (line : Line) (k : Keeps installed delay room line) (in_line : n < 8) where
   abbrev p : Printer
   p = get_or line.printers n no_printer
 
@@ -42,7 +42,7 @@ module _ (installed delay room n : ℕ) (line : Line) (k : Keeps installed delay
   unfolding printer_keeps
   taker e =
       let h = both (bit n installed) (not (is_busy p)) e in
-      let keeps = rw h.0 at (k.each n in-line) in
+      let keeps = rw h.0 at (k.each n in_line) in
       (h.0, not-true (is_busy p) h.1, present (bit n line.pending) delay room p keeps)
 
   -- A command keeps the rules.
@@ -56,7 +56,7 @@ module _ (installed delay room n : ℕ) (line : Line) (k : Keeps installed delay
       go false e = k
       go true e =
           let t = taker e in
-          device.one_anew no_printer (keeps_of delay room) installed line.printers line.pending k n in-line (commanded_of delay word p) t.0 (is_illegal word)
+          device.one_anew no_printer (keeps_of delay room) installed line.printers line.pending k n in_line (commanded_of delay word p) t.0 (is_illegal word)
           (rw t.0 (commanded_keeps (bit n line.pending) delay room p t.2 t.1 word some))
 
   -- A write of DATA0 keeps the rules.
@@ -69,7 +69,7 @@ module _ (installed delay room n : ℕ) (line : Line) (k : Keeps installed delay
       go false e = k
       go true e =
           let t = taker e in
-          device.same_anew no_printer (keeps_of delay room) installed line.printers line.pending k n in-line (with_data word p) t.0
+          device.same_anew no_printer (keeps_of delay room) installed line.printers line.pending k n in_line (with_data word p) t.0
           (rw t.0 (with_data_keeps (bit n line.pending) delay room p t.2 t.1 word))
 
 -- ---- the test says what the rules say

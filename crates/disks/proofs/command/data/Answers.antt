@@ -1,25 +1,16 @@
 -- `command::data` meets its contract: a disk that takes no writes ignores it.
 use mathlib.Core.Path.{sym, ◌∙◌}
-use borrow.Author.Tests.{not-true, not-false}
 use Rattle.disks.proofs.LineHeld.{not_written, written_held}
-use borrow.Author.Rules.{rules}
 use Rattle.disks.proofs.command.data.Goals as goal
 
 pub returns-then-not-takes_writes : goal.returns-then-not-takes_writes
 returns-then-not-takes_writes c =
-    let asked = c in
-    let read = asked in
-    let start = read in
-    let a = start.args in
-    not_written a.words.now a.n start.requires.0 start.requires.1 a.installed a.word read.disk_in-d.ensures
-    (sym asked.takes_writes.ensures ∙ not-true _ c.if-not-takes_writes.true)
+    let a = c.args in
+    not_written a.words.now a.n c.requires.0 c.requires.1 a.installed a.word c.disk_in-d.ensures
+    (sym c.takes_writes.ensures ∙ c.if-not-takes_writes.true)
 
 pub returns : goal.returns
 returns c =
-    let made = c in
-    let asked = made in
-    let read = asked in
-    let start = read in
-    let a = start.args in
-    written_held a.words.now a.n start.requires.0 start.requires.1 a.installed a.word read.disk_in-d.ensures
-    (sym asked.takes_writes.ensures ∙ not-false _ made.if-not-takes_writes.false) made.with_data-next.ensures c.put_disk.ensures
+    let a = c.args in
+    written_held a.words.now a.n c.requires.0 c.requires.1 a.installed a.word c.disk_in-d.ensures
+    (sym c.takes_writes.ensures ∙ c.if-not-takes_writes.false) c.with_data-next.ensures c.put_disk.ensures

@@ -1,5 +1,4 @@
 -- `command::takes_writes` meets its contract.
-use borrow.Author.Rules.{rules}
 use Rattle.disks.proofs.command.takes_writes.Goals as goal
 
 pub returns : goal.returns

@@ -1,11 +1,8 @@
 -- `rules::line_keeps` meets its contract. The invariant: `ok` says whether every disk passed keeps the rules.
-use borrow.Author.Rules.{rules}
 use mathlib.Core.Path.{◌≡◌, refl}
-use Prim.Native.Nat.{◌-◌, ◌≤◌}
 use native.Mathlib.Omega.{arith}
 use native.Mathlib.Numerals.{add-one}
-use Rattle.word.specs.Lists.{every}
-use Rattle.disks.specs.Rules.{disk_keeps_at, line_keeps}
+use Rattle.disks.specs.Rules.{line_keeps}
 use Rattle.disks.proofs.rules.line_keeps.Goals as goal
 
 pub loop-n-init : goal.loop-n-init

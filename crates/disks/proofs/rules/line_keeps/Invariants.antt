@@ -1,11 +1,8 @@
 -- `rules::line_keeps` meets its contract. The invariant: `ok` says whether every disk passed keeps the rules.
-use borrow.Author.Rules.{rules}
-use mathlib.Core.Path.{◌≡◌, refl}
+use mathlib.Core.Path.{◌≡◌}
 use Prim.Native.Nat.{◌-◌, ◌≤◌}
-use native.Mathlib.Omega.{arith}
-use native.Mathlib.Numerals.{add-one}
 use Rattle.word.specs.Lists.{every}
-use Rattle.disks.specs.Rules.{disk_keeps_at, line_keeps}
+use Rattle.disks.specs.Rules.{disk_keeps_at}
 use Rattle.disks.proofs.rules.line_keeps.Given as goal
 
 abbrev pub invariant-loop-n : goal.invariant-loop-n

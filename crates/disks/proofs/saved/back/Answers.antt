@@ -1,6 +1,5 @@
 -- `saved::back` meets its contract.
 use Rattle.disks.proofs.Turns.{one_back}
-use borrow.Author.Rules.{rules}
 use Rattle.disks.proofs.saved.back.Goals as goal
 
 pub returns : goal.returns

@@ -1,7 +1,6 @@
 -- `saved::back_line` meets its contract: eight disks given back, the last first.
 use mathlib.Core.Path.{◌∙◌}
-use Rattle.disks.proofs.Turns.{eight-backs}
-use borrow.Author.Rules.{rules}
+use Rattle.disks.proofs.Turns.{eight_backs}
 use Rattle.disks.proofs.saved.back_line.Goals as goal
 
 pub shape_of-ram : goal.shape_of-ram
@@ -32,7 +31,7 @@ pub shape_of-b7 : goal.shape_of-b7
 shape_of-b7 c = c.back-l7.auto.bytes
 
 pub returns : goal.returns
-returns c = rw c.with_pending.ensures (eight-backs _ _ _ _ _ _ _ _ _ _ _ _ _ _ _ _ _ _ _ _ _ _ _ _ _ _ _ _ _ _ _ _ _ _ _ _
+returns c = rw c.with_pending.ensures (eight_backs _ _ _ _ _ _ _ _ _ _ _ _ _ _ _ _ _ _ _ _ _ _ _ _ _ _ _ _ _ _ _ _ _ _ _ _
     c.back-l7.ensures
     c.back-l6.ensures
     c.back-l5.ensures

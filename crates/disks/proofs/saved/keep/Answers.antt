@@ -2,7 +2,6 @@
 use Rattle.disks.specs.Saved.{note_words}
 use Rattle.disks.specs.Words.{disks_in}
 use Rattle.disks.proofs.NoteWords.{eight_kept}
-use borrow.Author.Rules.{rules}
 use Rattle.disks.proofs.saved.keep.Goals as goal
 
 pub returns : goal.returns

@@ -5,7 +5,6 @@ use lib.Seq.{sets}
 use Rattle.disk.specs.declared.saved.Kept.{Kept}
 use Rattle.disk.specs.Saved.{kept_of}
 use Rattle.disk.specs.Words.{kept_words}
-use borrow.Author.Rules.{rules}
 use Rattle.disks.proofs.saved.keep_one.Goals as goal
 
 pub returns : goal.returns

@@ -1,13 +1,8 @@
 -- `saved::kept_line` meets its contract. The invariant: what is kept of the disks passed is read, and the rest is as it was.
-use mathlib.Core.Path.{◌≡◌, refl}
-use mathlib.Core.List.{◌++◌}
-use Prim.Native.Nat.{◌-◌, ◌≤◌}
+use mathlib.Core.Path.{refl}
 use native.Mathlib.Omega.{arith}
-use lib.ListN.{drop}
-use Rattle.word.specs.Lists.{tabulate}
 use Rattle.word.proofs.Lists.{fill_step, fill_end}
 use Rattle.disks.specs.Saved.{kept_in, kepts_in}
-use borrow.Author.Rules.{rules}
 use Rattle.disks.proofs.saved.kept_line.Goals as goal
 
 pub loop-n-init : goal.loop-n-init
@@ -17,11 +12,11 @@ pub loop-n-preserved : goal.loop-n-preserved
 loop-n-preserved c =
     let l = c.loop-n in
     let words = c.args.words.now in
-    (omega arith, rw c.kept_in.ensures (fill_step (kept_in words) _ l.auto l.n (omega arith) l.invariant.1))
+    (omega arith, rw c.kept_in.ensures (fill_step (kept_in words) _ l.kept l.n (omega arith) l.invariant.1))
 
 pub returns : goal.returns
 unfolding kepts_in
 returns c =
     let l = c.loop-n in
     let words = c.args.words.now in
-    fill_end (kept_in words) _ l.auto l.n (omega arith) l.invariant.1
+    fill_end (kept_in words) _ l.kept l.n (omega arith) l.invariant.1

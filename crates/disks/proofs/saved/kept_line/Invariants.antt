@@ -1,13 +1,10 @@
 -- `saved::kept_line` meets its contract. The invariant: what is kept of the disks passed is read, and the rest is as it was.
-use mathlib.Core.Path.{◌≡◌, refl}
+use mathlib.Core.Path.{◌≡◌}
 use mathlib.Core.List.{◌++◌}
 use Prim.Native.Nat.{◌-◌, ◌≤◌}
-use native.Mathlib.Omega.{arith}
 use lib.ListN.{drop}
 use Rattle.word.specs.Lists.{tabulate}
-use Rattle.word.proofs.Lists.{fill_step, fill_end}
-use Rattle.disks.specs.Saved.{kept_in, kepts_in}
-use borrow.Author.Rules.{rules}
+use Rattle.disks.specs.Saved.{kept_in}
 use Rattle.disks.proofs.saved.kept_line.Given as goal
 
 abbrev pub invariant-loop-n : goal.invariant-loop-n

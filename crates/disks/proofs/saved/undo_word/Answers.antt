@@ -1,6 +1,5 @@
 -- `saved::undo_word` meets its contract.
 use Rattle.disks.specs.Saved.{undo_word}
-use borrow.Author.Rules.{rules}
 use Rattle.disks.proofs.saved.undo_word.Goals as goal
 
 pub returns : goal.returns

@@ -1,6 +1,5 @@
 -- `tick::ends` meets its contract.
 use Rattle.disks.proofs.LineHeld.{not_ending, ending_told}
-use borrow.Author.Rules.{rules}
 use Rattle.disks.proofs.tick.ends.Goals as goal
 
 pub returns-then-words-n-ne-BUSY : goal.returns-then-words-n-ne-BUSY

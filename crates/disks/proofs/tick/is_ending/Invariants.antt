@@ -1,12 +1,9 @@
 -- `tick::is_ending` meets its contract. The invariant: `some` says whether one of the disks passed finishes.
-use mathlib.Core.Path.{◌≡◌, refl}
-use Prim.Native.Nat.{◌-◌, ◌≤◌, ◌<◌}
-use native.Mathlib.Omega.{arith}
-use native.Mathlib.Numerals.{add-one}
+use mathlib.Core.Path.{◌≡◌}
+use Prim.Native.Nat.{◌-◌, ◌≤◌}
 use Rattle.device.specs.Line.{some_of}
 use Rattle.disk.specs.Tick.{no_disk, finishes}
 use Rattle.disks.specs.Words.{disks_in}
-use Rattle.disks.proofs.LineHeld.{disk_at}
 use Rattle.disks.proofs.tick.is_ending.Given as goal
 
 abbrev pub invariant-loop-n : goal.invariant-loop-n

@@ -1,11 +1,9 @@
 -- `tick::is_spinning` meets its contract. The invariant: `some` says whether one of the disks passed is busy.
 use mathlib.Core.Path.{◌≡◌, refl}
-use Prim.Native.Nat.{◌-◌, ◌≤◌, ◌<◌}
+use Prim.Native.Nat.{◌<◌}
 use native.Mathlib.Omega.{arith}
 use native.Mathlib.Numerals.{add-one}
 use Rattle.device.specs.Line.{some_of}
-use Rattle.disk.specs.Tick.{no_disk, is_busy}
-use Rattle.disks.specs.Words.{disks_in}
 use Rattle.disks.proofs.LineHeld.{disk_at, first_word}
 use Rattle.disks.proofs.tick.is_spinning.Goals as goal
 

@@ -1,7 +1,6 @@
 -- `tick::tick` meets its contract: eight turns, in number order.
 use mathlib.Core.Path.{◌∙◌}
-use Rattle.disks.proofs.Turns.{eight-turns}
-use borrow.Author.Rules.{rules}
+use Rattle.disks.proofs.Turns.{eight_turns}
 use Rattle.disks.proofs.tick.tick.Goals as goal
 
 pub shape_of-ram : goal.shape_of-ram
@@ -35,7 +34,7 @@ pub returns : goal.returns
 returns c =
     record {
       ticked =
-          eight-turns _ _ _ _ _ _ _ _ _ _ _ _ _ _ _ _ _ _ _ _ _ _ _ _ _ _ _ _ _ _ _ _ _ _
+          eight_turns _ _ _ _ _ _ _ _ _ _ _ _ _ _ _ _ _ _ _ _ _ _ _ _ _ _ _ _ _ _ _ _ _ _
           c.turn-m0.ensures.turn_is
           c.turn-m1.ensures.turn_is
           c.turn-m2.ensures.turn_is

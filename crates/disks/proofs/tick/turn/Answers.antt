@@ -1,6 +1,5 @@
 -- `tick::turn` meets its contract: a disk that is not busy is left, any other is put back.
 use Rattle.disks.proofs.LineHeld.{still, worked}
-use borrow.Author.Rules.{rules}
 use Rattle.disks.proofs.tick.turn.Goals as goal
 
 pub returns-then-words-n-ne-BUSY : goal.returns-then-words-n-ne-BUSY

@@ -1,7 +1,5 @@
 -- `words::disk_in` meets its contract.
-use mathlib.Core.Path.{sym}
 use Rattle.disks.proofs.LineHeld.{first_word}
-use borrow.Author.Rules.{rules}
 use Rattle.disks.proofs.words.disk_in.Goals as goal
 
 pub returns : goal.returns

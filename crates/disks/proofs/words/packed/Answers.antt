@@ -1,9 +1,9 @@
 -- `words::packed` meets its contract. The invariant: the words of the disks passed are stored, and nothing else.
 use mathlib.Core.Path.{◌≡◌, refl, ◌∙◌}
-use Prim.Native.Nat.{◌-◌, ◌≤◌, ◌<◌}
+use Prim.Native.Nat.{◌<◌}
 use native.Mathlib.Omega.{arith}
-use lib.ListN.{length, take}
-use lib.Seq.{sets, take-length}
+use lib.ListN.{length}
+use lib.Seq.{take-length}
 use Rattle.word.specs.Lists.{flat}
 use Rattle.word.proofs.Lists.{sets_whole, store_step}
 use Rattle.disks.specs.Words.{disk_words}

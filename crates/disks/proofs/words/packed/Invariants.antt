@@ -1,13 +1,10 @@
 -- `words::packed` meets its contract. The invariant: the words of the disks passed are stored, and nothing else.
-use mathlib.Core.Path.{◌≡◌, refl, ◌∙◌}
-use Prim.Native.Nat.{◌-◌, ◌≤◌, ◌<◌}
-use native.Mathlib.Omega.{arith}
-use lib.ListN.{length, take}
-use lib.Seq.{sets, take-length}
+use mathlib.Core.Path.{◌≡◌}
+use Prim.Native.Nat.{◌-◌, ◌≤◌}
+use lib.ListN.{take}
+use lib.Seq.{sets}
 use Rattle.word.specs.Lists.{flat}
-use Rattle.word.proofs.Lists.{sets_whole, store_step}
 use Rattle.disks.specs.Words.{disk_words}
-use Rattle.disks.proofs.Packed.{seven_words, length_held}
 use Rattle.disks.proofs.words.packed.Given as goal
 
 abbrev pub invariant-loop-n : goal.invariant-loop-n

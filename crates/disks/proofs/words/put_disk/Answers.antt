@@ -1,6 +1,5 @@
 -- `words::put_disk` meets its contract.
 use Rattle.disks.proofs.LineHeld.{store_seven}
-use borrow.Author.Rules.{rules}
 use Rattle.disks.proofs.words.put_disk.Goals as goal
 
 pub returns : goal.returns

@@ -1,13 +1,10 @@
 -- `words::unpacked` meets its contract. The invariant: the disks passed are read, and the rest is as it was.
-use mathlib.Core.Path.{◌≡◌, refl}
+use mathlib.Core.Path.{◌≡◌}
 use mathlib.Core.List.{◌++◌}
 use Prim.Native.Nat.{◌-◌, ◌≤◌}
-use native.Mathlib.Omega.{arith}
 use lib.ListN.{drop}
 use Rattle.word.specs.Lists.{tabulate}
-use Rattle.word.proofs.Lists.{fill_step, fill_end}
-use Rattle.disks.specs.Words.{disk_in, disks_in}
-use borrow.Author.Rules.{rules}
+use Rattle.disks.specs.Words.{disk_in}
 use Rattle.disks.proofs.words.unpacked.Given as goal
 
 abbrev pub invariant-loop-n : goal.invariant-loop-n
