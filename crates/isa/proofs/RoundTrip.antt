@@ -1,7 +1,6 @@
 -- The word of an instruction says that instruction again.
 use mathlib.Core.Path.{◌≡◌, refl, ◌∙◌}
 use Prim.Native.Nat.{ℕ, ◌^◌, ◌<◌}
-use native.Mathlib.Omega.{arith}
 use lib.Dec.{lit<}
 use lib.ListN.{get_or}
 use Rattle.isa.specs.Fields.{rs, rt, rd, shamt, immediate}

@@ -1,15 +1,15 @@
 -- A list of numbers as cells of n bytes, one after the other: reading undoes writing, and writing undoes reading. Once, over n.
 use mathlib.Core.Path.{◌≡◌, sym, ap, ◌∙◌}
 use mathlib.Core.List.{List, [], ◌∷◌, ◌++◌, append-nil}
-use Prim.Native.Nat.{ℕ, zero, suc, ◌+◌, ◌*◌, ◌/◌, ◌%◌, ◌^◌, ◌≤◌, ◌<◌}
-use native.Mathlib.Nat.{mod-lt, mod-eq_of_lt, one-le-pow, mul-zero, mul-suc, add_comm}
+use Prim.Native.Nat.{ℕ, zero, suc, ◌+◌, ◌*◌, ◌^◌, ◌≤◌, ◌<◌}
+use native.Mathlib.Nat.{mod-eq_of_lt, mul-zero, mul-suc, add_comm}
 use native.Mathlib.Omega.{arith}
-use lib.ListN.{length, get_or, take, drop, length-drop}
-use lib.Seq.{sets, sets-eq, take-add, take_at, drop-append-add, length-take-le, get_or-take, get_or-drop}
+use lib.ListN.{length, get_or, take, drop}
+use lib.Seq.{sets, sets-eq, take-add, take_at, drop-append-add}
 use Rattle.word.specs.Lists.{tabulate, flat, Below}
 use Rattle.word.specs.Little.{from_bytes, to_bytes}
-use Rattle.word.proofs.Lists.{flat_append, below_nil, below_cons, below_append}
-use Rattle.word.proofs.LittleBytes.{length_to, from_to, to_from}
+use Rattle.word.proofs.Lists.{flat_append, below_nil, below_append}
+use Rattle.word.proofs.LittleBytes.{length_to, from_to}
 use Rattle.memory.proofs.OneCell.{to_below, to_loaded}
 use Rattle.memory.specs.Memory.{load_at, stored_at}
 

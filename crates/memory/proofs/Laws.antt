@@ -5,8 +5,8 @@ use Prim.Native.Nat.{ℕ, ◌+◌, ◌%◌, ◌^◌, ◌≤◌, ◌<◌}
 use native.Mathlib.Omega.{arith}
 use lib.ListN.{length, get_or, take, drop, length-append, length-drop, take-append-drop, get_or-append}
 use lib.Seq.{length-take-le, take_at, drop_at, get_or-take, get_or-drop, get_or-append-add, drop-drop}
-use Rattle.word.specs.Little.{from_bytes, to_bytes}
-use Rattle.word.proofs.LittleBytes.{length_to, from_to, to_from}
+use Rattle.word.specs.Little.{to_bytes}
+use Rattle.word.proofs.LittleBytes.{length_to, from_to}
 use Rattle.memory.proofs.OneCell.{to_loaded}
 use Rattle.memory.specs.Memory.{load_at, stored_at}
 

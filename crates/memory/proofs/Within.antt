@@ -1,16 +1,16 @@
 -- A part of a cell: n bytes, a places into a cell of k bytes. Reading it is taking it out of the cell's number, and writing it is writing the
 -- cell whole with these bytes changed. Once, over k and n.
-use mathlib.Core.Path.{◌≡◌, sym, ap, subst⁻¹, ◌∙◌}
+use mathlib.Core.Path.{◌≡◌, sym, ap, ◌∙◌}
 use mathlib.Core.List.{List, ◌++◌, append_assoc}
-use Prim.Native.Nat.{ℕ, zero, suc, ◌+◌, ◌-◌, ◌/◌, ◌%◌, ◌^◌, ◌≤◌, ◌<◌}
-use native.Mathlib.Nat.{zero-add, one-le-pow, mod-lt, mod-eq_of_lt, div-eq_of_lt, add-mul-div_left, add-mul-mod_self_left}
+use Prim.Native.Nat.{ℕ, ◌+◌, ◌-◌, ◌/◌, ◌%◌, ◌^◌, ◌≤◌, ◌<◌}
+use native.Mathlib.Nat.{zero-add, one-le-pow, mod-eq_of_lt, div-eq_of_lt, add-mul-div_left, add-mul-mod_self_left}
 use native.Mathlib.Omega.{arith}
 use lib.ListN.{length, get_or, take, drop, length-drop, take-append-drop}
 use lib.Seq.{length-take-le, take-take, take-add, drop-drop, drop-append-le, get_or-take, get_or-drop}
 use Rattle.word.specs.Lists.{Below}
 use Rattle.word.specs.Little.{from_bytes, to_bytes}
-use Rattle.word.proofs.Lists.{below_nil, below_cons, below_append}
-use Rattle.word.proofs.LittleBytes.{from_to, to_from}
+use Rattle.word.proofs.Lists.{below_append}
+use Rattle.word.proofs.LittleBytes.{to_from}
 use Rattle.memory.specs.Memory.{load_at, stored_at}
 use Rattle.memory.proofs.OneCell.{cell, cell_long, cell_below, to_loaded, load_small, to_below}
 use Rattle.memory.proofs.Split.{load_split}

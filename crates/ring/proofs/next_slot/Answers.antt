@@ -1,5 +1,4 @@
 -- `ring::next_slot` meets its contract.
-use borrow.Author.Rules.{rules}
 use borrow.Author.Tests.{lt-ltb, le-ltb}
 use Rattle.ring.proofs.next_slot.Goals as goal
 

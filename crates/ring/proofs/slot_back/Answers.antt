@@ -1,5 +1,4 @@
 -- `ring::slot_back` meets its contract.
-use borrow.Author.Rules.{rules}
 use borrow.Author.Tests.{le-leb, lt-leb}
 use native.Mathlib.Omega.{arith}
 use Rattle.ring.proofs.slot_back.Goals as goal

@@ -1,5 +1,4 @@
 -- `tlb::from` meets its contract.
-use borrow.Author.Rules.{rules}
 use Rattle.tlb.proofs.from.Goals as goal
 
 pub returns-then-hit : goal.returns-then-hit

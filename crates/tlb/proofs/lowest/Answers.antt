@@ -1,11 +1,8 @@
 -- `tlb::lowest` meets its contract. The loop's invariant: the search of the whole table is the search from entry i on.
-use mathlib.Core.Path.{◌≡◌, ◌∙◌, sym, ap}
-use Prim.Native.Nat.{◌≤◌, ◌-◌}
+use mathlib.Core.Path.{◌∙◌, sym, ap}
 use native.Mathlib.Omega.{arith}
-use lib.ListN.{drop}
 use borrow.Author.Rules.{rules}
-use Rattle.tlb.specs.Entry.{matches_of}
-use Rattle.tlb.specs.Search.{first_from, found_in, lowest_of}
+use Rattle.tlb.specs.Search.{lowest_of}
 use Rattle.tlb.proofs.Steps.{past_end, on_hit, on_miss}
 use Rattle.tlb.proofs.lowest.Goals as goal
 

@@ -1,12 +1,9 @@
 -- `tlb::lowest` meets its contract. The loop's invariant: the search of the whole table is the search from entry i on.
-use mathlib.Core.Path.{◌≡◌, ◌∙◌, sym, ap}
+use mathlib.Core.Path.{◌≡◌}
 use Prim.Native.Nat.{◌≤◌, ◌-◌}
-use native.Mathlib.Omega.{arith}
 use lib.ListN.{drop}
-use borrow.Author.Rules.{rules}
 use Rattle.tlb.specs.Entry.{matches_of}
-use Rattle.tlb.specs.Search.{first_from, found_in, lowest_of}
-use Rattle.tlb.proofs.Steps.{past_end, on_hit, on_miss}
+use Rattle.tlb.specs.Search.{first_from, found_in}
 use Rattle.tlb.proofs.lowest.Given as goal
 
 abbrev pub invariant-loop-i : goal.invariant-loop-i

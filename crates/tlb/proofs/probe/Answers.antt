@@ -1,6 +1,5 @@
 -- `tlb::probe` meets its contract: it is `probed` of what `lowest` finds.
 use mathlib.Core.Path.{◌≡◌, refl, ap, ◌∙◌}
-use borrow.Author.Rules.{rules}
 use Rattle.tlb.specs.Search.{found_in, lowest_of}
 use Rattle.tlb.specs.Index.{probed_of, probed_at}
 use Rattle.tlb.specs.declared.Found.{Found}

@@ -1,5 +1,4 @@
 -- `tlb::probed` meets its contract, by cases.
-use borrow.Author.Rules.{rules}
 use Rattle.tlb.proofs.probed.Goals as goal
 
 pub returns-in-At : goal.returns-in-At

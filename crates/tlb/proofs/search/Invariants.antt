@@ -1,12 +1,9 @@
 -- `tlb::search` meets its contract. The loop's invariant: what is found from entry i on.
-use mathlib.Core.Path.{◌≡◌, ◌∙◌, sym, ap}
-use Prim.Native.Nat.{ℕ, ◌≤◌}
-use native.Mathlib.Omega.{arith}
+use mathlib.Core.Path.{◌≡◌}
+use Prim.Native.Nat.{◌≤◌}
 use lib.ListN.{drop}
-use borrow.Author.Rules.{rules}
 use Rattle.tlb.specs.Entry.{matches_of}
 use Rattle.tlb.specs.Search.{first_from}
-use Rattle.tlb.proofs.Steps.{past_end, one_down}
 use Rattle.tlb.proofs.search.Given as goal
 
 abbrev pub invariant-loop-i : goal.invariant-loop-i

@@ -1,6 +1,5 @@
 -- `cp0::entry::bad_vaddr` meets its contract.
 use Rattle.cp0.specs.Entry.{bad_v_addr_of}
-use borrow.Author.Rules.{rules}
 use Rattle.cp0.proofs.entry.bad_vaddr.Goals as goal
 
 pub returns-then-between : goal.returns-then-between

@@ -4,7 +4,6 @@ use native.Mathlib.Nat.{zero-add}
 use native.Mathlib.Omega.{arith}
 use borrow.Author.Tests.{eq-eqb, ne_eqb}
 use Rattle.cp0.specs.Entry.{cause_of}
-use borrow.Author.Rules.{rules}
 use Rattle.cp0.proofs.entry.cause.Goals as goal
 
 pub overflow_add-bd : goal.overflow_add-bd

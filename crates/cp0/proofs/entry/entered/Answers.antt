@@ -1,6 +1,5 @@
 -- `cp0::entry::entered` meets its contract.
 use Rattle.cp0.specs.Entry.{entered_of}
-use borrow.Author.Rules.{rules}
 use Rattle.cp0.proofs.entry.entered.Goals as goal
 
 pub returns : goal.returns

@@ -1,7 +1,6 @@
 -- `cp0::entry::entry_hi` meets its contract.
 use mathlib.Core.Path.{◌∙◌}
 use Rattle.cp0.specs.Entry.{entry_hi_of}
-use borrow.Author.Rules.{rules}
 use Rattle.cp0.proofs.entry.entry_hi.Goals as goal
 
 pub returns-then-between : goal.returns-then-between

@@ -1,6 +1,5 @@
 -- `cp0::entry::vector` meets its contract.
 use Rattle.cp0.specs.Entry.{vector_of}
-use borrow.Author.Rules.{rules}
 use Rattle.cp0.proofs.entry.vector.Goals as goal
 
 pub returns-then-bev : goal.returns-then-bev

@@ -1,5 +1,4 @@
 -- `cp0::interrupt::interrupts` meets its contract.
-use borrow.Author.Rules.{rules}
 use Rattle.cp0.proofs.interrupt.interrupts.Goals as goal
 
 pub returns : goal.returns

@@ -1,7 +1,6 @@
 -- `cp0::random::next_random` meets its contract.
 use native.Mathlib.Omega.{arith}
 use borrow.Author.Tests.{le-leb, lt-leb}
-use borrow.Author.Rules.{rules}
 use Rattle.cp0.specs.Random.{field}
 use Rattle.cp0.proofs.random.next_random.Goals as goal
 

@@ -1,5 +1,4 @@
 -- `cp0::registers::mask` meets its contract, by cases.
-use borrow.Author.Rules.{rules}
 use Rattle.cp0.proofs.registers.mask.Goals as goal
 
 pub returns-in-Index : goal.returns-in-Index

@@ -1,6 +1,5 @@
 -- `cp0::registers::with_register` meets its contract, by cases.
 use Rattle.cp0.specs.Registers.{with_register}
-use borrow.Author.Rules.{rules}
 use Rattle.cp0.proofs.registers.with_register.Goals as goal
 
 pub returns-in-Index : goal.returns-in-Index

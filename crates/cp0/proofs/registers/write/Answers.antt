@@ -1,6 +1,5 @@
 -- `cp0::registers::write` meets its contract: what its calls ensure, joined.
 use Rattle.cp0.specs.Written.{written_of}
-use borrow.Author.Rules.{rules}
 use Rattle.cp0.proofs.registers.write.Goals as goal
 
 pub returns : goal.returns

@@ -5,7 +5,6 @@ use Prim.Native.Nat.{ℕ}
 use native.Mathlib.Omega.{arith}
 use Rattle.isa.specs.Cop0.{moves, none, CO}
 use Rattle.word.proofs.Rest.{rest}
-use borrow.Author.Rules.{rules}
 use Rattle.isa.proofs.control.control.Goals as goal
 
 -- the keys of the `match`, from the last to the first

@@ -1,5 +1,4 @@
 -- `isa::control::moved_from` meets its contract, by cases.
-use borrow.Author.Rules.{rules}
 use Rattle.isa.proofs.control.moved_from.Goals as goal
 
 pub returns-in-Is : goal.returns-in-Is

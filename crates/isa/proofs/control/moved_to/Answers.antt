@@ -1,5 +1,4 @@
 -- `isa::control::moved_to` meets its contract, by cases.
-use borrow.Author.Rules.{rules}
 use Rattle.isa.proofs.control.moved_to.Goals as goal
 
 pub returns-in-Is : goal.returns-in-Is

@@ -5,7 +5,6 @@ use Prim.Native.Nat.{ℕ}
 use native.Mathlib.Omega.{arith}
 use Rattle.isa.specs.Opcode.{opcodes, none}
 use Rattle.word.proofs.Rest.{rest}
-use borrow.Author.Rules.{rules}
 use Rattle.isa.proofs.decode.operation.Goals as goal
 
 -- the keys of the `match`, from the last to the first

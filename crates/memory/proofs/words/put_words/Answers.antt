@@ -1,10 +1,9 @@
 -- `memory::words::put_words` meets its contract. The invariant: the bytes of the words passed are stored, and nothing else.
 use mathlib.Core.Path.{◌≡◌, refl, ◌∙◌}
-use Prim.Native.Nat.{◌+◌, ◌*◌, ◌-◌, ◌≤◌, ◌<◌}
+use Prim.Native.Nat.{◌+◌, ◌*◌, ◌≤◌, ◌<◌}
 use native.Mathlib.Omega.{arith}
-use lib.ListN.{length, take}
-use lib.Seq.{sets, take-length}
-use Rattle.word.specs.Lists.{flat}
+use lib.ListN.{length}
+use lib.Seq.{take-length}
 use Rattle.word.specs.Little.{to_bytes}
 use Rattle.word.proofs.Lists.{store_step}
 use Rattle.word.proofs.LittleBytes.{length_to}

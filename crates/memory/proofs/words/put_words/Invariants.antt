@@ -1,14 +1,10 @@
 -- `memory::words::put_words` meets its contract. The invariant: the bytes of the words passed are stored, and nothing else.
-use mathlib.Core.Path.{◌≡◌, refl, ◌∙◌}
-use Prim.Native.Nat.{◌+◌, ◌*◌, ◌-◌, ◌≤◌, ◌<◌}
-use native.Mathlib.Omega.{arith}
+use mathlib.Core.Path.{◌≡◌}
+use Prim.Native.Nat.{◌-◌, ◌≤◌}
 use lib.ListN.{length, take}
-use lib.Seq.{sets, take-length}
+use lib.Seq.{sets}
 use Rattle.word.specs.Lists.{flat}
 use Rattle.word.specs.Little.{to_bytes}
-use Rattle.word.proofs.Lists.{store_step}
-use Rattle.word.proofs.LittleBytes.{length_to}
-use Rattle.memory.proofs.Cells.{stored_sets}
 use Rattle.memory.proofs.words.put_words.Given as goal
 
 abbrev pub invariant-loop-i : goal.invariant-loop-i

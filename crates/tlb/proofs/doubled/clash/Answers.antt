@@ -1,6 +1,5 @@
 -- `tlb::doubled::clash` meets its contract: each way out has the tests that led there.
 use mathlib.Core.Path.{sym, ◌∙◌}
-use borrow.Author.Rules.{rules}
 use borrow.Author.Tests.{le-leb, lt-leb}
 use Rattle.tlb.specs.Doubled.{clash_of}
 use Rattle.tlb.proofs.doubled.clash.Goals as goal

@@ -1,10 +1,6 @@
 -- `tlb::doubled::doubled` meets its contract. The loop's invariant: the look at the whole table is the look from entry i on.
-use mathlib.Core.Path.{◌≡◌, ◌∙◌, sym}
-use Prim.Native.Nat.{◌-◌}
-use native.Mathlib.Omega.{arith}
-use lib.ListN.{drop}
+use mathlib.Core.Path.{◌∙◌, sym}
 use borrow.Author.Rules.{rules}
-use Rattle.tlb.specs.Doubled.{doubled_in}
 use Rattle.tlb.proofs.Clashes.{double_end, double_hit, double_miss}
 use Rattle.tlb.proofs.doubled.doubled.Goals as goal
 

@@ -1,11 +1,8 @@
 -- `tlb::doubled::doubled` meets its contract. The loop's invariant: the look at the whole table is the look from entry i on.
-use mathlib.Core.Path.{◌≡◌, ◌∙◌, sym}
+use mathlib.Core.Path.{◌≡◌}
 use Prim.Native.Nat.{◌-◌}
-use native.Mathlib.Omega.{arith}
 use lib.ListN.{drop}
-use borrow.Author.Rules.{rules}
 use Rattle.tlb.specs.Doubled.{doubled_in}
-use Rattle.tlb.proofs.Clashes.{double_end, double_hit, double_miss}
 use Rattle.tlb.proofs.doubled.doubled.Given as goal
 
 abbrev pub invariant-loop-i : goal.invariant-loop-i

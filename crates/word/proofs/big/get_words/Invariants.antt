@@ -1,12 +1,10 @@
 -- `big::get_words` meets its contract. The invariant: the words passed are those of the bytes, and the rest is as it was.
-use mathlib.Core.Path.{◌≡◌, refl}
+use mathlib.Core.Path.{◌≡◌}
 use mathlib.Core.List.{◌++◌}
 use Prim.Native.Nat.{ℕ, ◌*◌, ◌-◌, ◌≤◌}
-use native.Mathlib.Omega.{arith}
-use lib.ListN.{length, drop, length-set}
+use lib.ListN.{length, drop}
 use Rattle.word.specs.Lists.{tabulate}
 use Rattle.word.specs.Big.{word_at}
-use Rattle.word.proofs.Lists.{fill_step, fill_end}
 use Rattle.word.proofs.big.get_words.Given as goal
 
 abbrev pub invariant-loop-i : goal.invariant-loop-i

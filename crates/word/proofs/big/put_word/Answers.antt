@@ -1,5 +1,4 @@
 -- `big::put_word` meets its contract: the bytes of the swapped word are those of the word in the other order, and the four stores are `sets`, whose places are written with `suc`.
-use borrow.Author.Rules.{rules}
 use mathlib.Core.Path.{◌≡◌, ap, ◌∙◌}
 use mathlib.Core.List.{[], ◌∷◌}
 use Prim.Native.Nat.{suc, ◌+◌, ◌/◌, ◌%◌}

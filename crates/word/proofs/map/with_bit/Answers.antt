@@ -7,7 +7,6 @@ use lib.Pow.{shl_exact}
 use lib.Dec.{lit<}
 use Prim.{tt}
 use Rattle.word.specs.Map.{with_bit}
-use borrow.Author.Rules.{rules}
 use Rattle.word.proofs.map.with_bit.Goals as goal
 
 pub returns-then-has_bit-on : goal.returns-then-has_bit-on

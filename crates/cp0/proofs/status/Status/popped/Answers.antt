@@ -1,6 +1,5 @@
 -- `cp0::status::Status::popped` meets its contract: what the two reads ensure is put into what `with_stacks` ensures.
 use mathlib.Core.Path.{◌∙◌}
-use borrow.Author.Rules.{rules}
 use Rattle.cp0.specs.Stack.{popped_stack}
 use Rattle.cp0.specs.Word.{with_stacks, popped_of}
 use Rattle.cp0.proofs.status.Status.popped.Goals as goal
