@@ -13,7 +13,7 @@ use Rattle.text.specs.Digit.{digit_of, is_digit}
 use Rattle.text.specs.Spelt.{face_of}
 use Rattle.text.proofs.Worth.{face_worth}
 use Rattle.remote.specs.Sum.{sum_of, says_of}
-use Rattle.remote.specs.Payload.{Reading, plain, added_of, plain_of, steps_of, read_of}
+use Rattle.remote.specs.Payload.{Reading, plain, added_of, plain_of, step_of, steps_of, read_of}
 use Rattle.remote.specs.Heard.{Hearing, only, answered_of, heard_of}
 use Rattle.remote.specs.Said.{coded_of, body_of, closing_of, said_of}
 use Rattle.remote.specs.declared.kind.Heard.TheVariants.{More, Packet, Damaged}
@@ -58,7 +58,7 @@ clear_body (b ∷ r) = clear_append (coded_of b) (body_of r) (clear_coded b) (cl
 steps_append : (room : ℕ) (r : Reading) (s t : List ℕ) → steps_of room r (s ++ t) ≡ steps_of room (steps_of room r s) t
 unfolding steps_of
 steps_append room r [] t = refl
-steps_append room r (b ∷ s) t = steps_append room _ s t
+steps_append room r (b ∷ s) t = steps_append room (step_of room r b) s t
 
 module _ (room : ℕ) (done : List ℕ) (fits : length done + 1 ≤ room) where
   added : (b : ℕ) → added_of room done (b ∷ []) ≡ plain (done ++ b ∷ [])

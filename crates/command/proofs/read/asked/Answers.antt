@@ -1,5 +1,4 @@
 -- `command::read::asked` meets its contract, by cases.
-use borrow.Author.Rules.{rules}
 use Rattle.command.proofs.read.asked.Goals as goal
 
 pub returns-in-New : goal.returns-in-New

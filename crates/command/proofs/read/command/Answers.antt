@@ -1,7 +1,6 @@
 -- `command::read::command` meets its contract.
 use mathlib.Core.Path.{sym, ◌∙◌}
 use Rattle.command.proofs.Lines.{line_blank, line_note, line_read}
-use borrow.Author.Rules.{rules}
 use Rattle.command.proofs.read.command.Goals as goal
 
 pub returns-then-line-at : goal.returns-then-line-at

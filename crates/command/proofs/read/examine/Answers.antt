@@ -1,5 +1,4 @@
 -- `command::read::examine` meets its contract.
-use borrow.Author.Rules.{rules}
 use Rattle.command.proofs.read.examine.Goals as goal
 
 pub returns : goal.returns

@@ -1,5 +1,4 @@
 -- `command::read::name_behind` meets its contract.
-use borrow.Author.Rules.{rules}
 use Rattle.command.proofs.read.name_behind.Goals as goal
 
 pub returns : goal.returns

@@ -1,5 +1,4 @@
 -- `command::read::new` meets its contract.
-use borrow.Author.Rules.{rules}
 use Rattle.command.proofs.read.new.Goals as goal
 
 pub returns : goal.returns

@@ -1,5 +1,4 @@
 -- `command::read::said` meets its contract.
-use borrow.Author.Rules.{rules}
 use Rattle.command.proofs.read.said.Goals as goal
 
 pub returns-then-reading : goal.returns-then-reading

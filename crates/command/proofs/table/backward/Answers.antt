@@ -1,7 +1,6 @@
 -- `command::table::backward` meets its contract.
 use Rattle.command.specs.Table.{backward_of}
 use Rattle.forms.proofs.Best.{or_else, or_twice}
-use borrow.Author.Rules.{rules}
 use Rattle.command.proofs.table.backward.Goals as goal
 
 pub returns : goal.returns

@@ -1,6 +1,5 @@
 -- `command::table::compare` meets its contract.
 use Rattle.command.specs.Table.{compare_of}
-use borrow.Author.Rules.{rules}
 use Rattle.command.proofs.table.compare.Goals as goal
 
 pub returns : goal.returns

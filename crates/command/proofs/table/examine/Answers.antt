@@ -1,5 +1,4 @@
 -- `command::table::examine` meets its contract.
-use borrow.Author.Rules.{rules}
 use Rattle.command.proofs.table.examine.Goals as goal
 
 pub returns : goal.returns

@@ -1,7 +1,6 @@
 -- `command::table::forms` meets its contract.
 use Rattle.command.specs.Table.{forms_of}
 use Rattle.forms.proofs.Best.{or_both}
-use borrow.Author.Rules.{rules}
 use Rattle.command.proofs.table.forms.Goals as goal
 
 pub returns : goal.returns

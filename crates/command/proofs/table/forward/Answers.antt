@@ -1,7 +1,6 @@
 -- `command::table::forward` meets its contract.
 use Rattle.command.specs.Table.{forward_of}
 use Rattle.forms.proofs.Best.{or_twice}
-use borrow.Author.Rules.{rules}
 use Rattle.command.proofs.table.forward.Goals as goal
 
 pub returns : goal.returns

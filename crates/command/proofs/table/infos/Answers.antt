@@ -1,7 +1,6 @@
 -- `command::table::infos` meets its contract.
 use Rattle.command.specs.Table.{infos_of}
 use Rattle.forms.proofs.Best.{or_else}
-use borrow.Author.Rules.{rules}
 use Rattle.command.proofs.table.infos.Goals as goal
 
 pub returns : goal.returns

@@ -1,6 +1,5 @@
 -- `command::table::load` meets its contract.
 use Rattle.command.specs.Table.{load_of}
-use borrow.Author.Rules.{rules}
 use Rattle.command.proofs.table.load.Goals as goal
 
 pub returns : goal.returns

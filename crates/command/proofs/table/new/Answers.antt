@@ -1,5 +1,4 @@
 -- `command::table::new` meets its contract.
-use borrow.Author.Rules.{rules}
 use Rattle.command.proofs.table.new.Goals as goal
 
 pub returns : goal.returns

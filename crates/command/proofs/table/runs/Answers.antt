@@ -1,7 +1,6 @@
 -- `command::table::runs` meets its contract.
 use Rattle.command.specs.Table.{runs_of}
 use Rattle.forms.proofs.Best.{or_both, plain_at, numbered_at}
-use borrow.Author.Rules.{rules}
 use Rattle.command.proofs.table.runs.Goals as goal
 
 pub returns : goal.returns

@@ -2,7 +2,6 @@
 use mathlib.Core.Path.{ap, ◌∙◌}
 use Rattle.command.specs.Table.{infos_of, views_of}
 use Rattle.forms.proofs.Best.{or_else, or_both}
-use borrow.Author.Rules.{rules}
 use Rattle.command.proofs.table.views.Goals as goal
 
 pub returns : goal.returns

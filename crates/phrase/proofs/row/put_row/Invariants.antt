@@ -1,5 +1,5 @@
 -- Safe and ending: up to the end of the table, in a buffer that keeps its length.
-use Rattle.std.proofs.Common.{◌≡◌, ◌-◌, ◌≤◌, length, rules}
+use Rattle.std.proofs.Common.{◌≡◌, ◌-◌, ◌≤◌, length}
 use Rattle.phrase.proofs.row.put_row.Given as goal
 
 abbrev pub invariant-loop-i : goal.invariant-loop-i

@@ -1,10 +1,8 @@
 -- `remote::course::decode` meets its contract. The loop's invariant: the bytes from i on, read behind those before, are read as all of them are.
-use mathlib.Core.Path.{◌≡◌, refl}
-use Prim.Native.Nat.{◌-◌, ◌≤◌, ◌<◌}
+use mathlib.Core.Path.{refl}
+use Prim.Native.Nat.{◌≤◌, ◌<◌}
 use native.Mathlib.Omega.{arith}
-use lib.ListN.{length, drop}
-use Rattle.remote.specs.Payload.{read_of, steps_of}
-use Rattle.remote.specs.Course.{laid_in, reading_of}
+use lib.ListN.{length}
 use Rattle.remote.proofs.Courses.{steps_more, steps_done}
 use borrow.Author.Rules.{rules}
 use Rattle.remote.proofs.course.decode.Goals as goal

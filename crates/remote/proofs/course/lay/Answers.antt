@@ -1,9 +1,8 @@
 -- `remote::course::lay` meets its contract. The loop's invariant: the run is laid up to i.
 use mathlib.Core.Path.{◌≡◌, refl, ◌∙◌}
-use mathlib.Core.List.{◌++◌}
-use Prim.Native.Nat.{◌+◌, ◌-◌, ◌≤◌, ◌<◌}
+use Prim.Native.Nat.{◌+◌, ◌<◌}
 use native.Mathlib.Omega.{arith}
-use lib.ListN.{length, take, replicate, length-set}
+use lib.ListN.{length, take, length-set}
 use Rattle.remote.proofs.Rooms.{laid_first, laid_more, lay_whole, lay_none}
 use borrow.Author.Rules.{rules}
 use Rattle.remote.proofs.course.lay.Goals as goal

@@ -2,7 +2,6 @@
 use borrow.Author.Tests.{ne_eqb}
 use Rattle.remote.specs.Payload.{plain_of}
 use Rattle.remote.proofs.Courses.{plain_escapes, plain_runs}
-use borrow.Author.Rules.{rules}
 use Rattle.remote.proofs.course.plain.Goals as goal
 
 pub returns-then-b-eq125 : goal.returns-then-b-eq125

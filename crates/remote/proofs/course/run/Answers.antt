@@ -1,6 +1,5 @@
 -- `remote::course::run` meets its contract.
 use Rattle.remote.proofs.Courses.{run_first, run_low, run_high, run_whole}
-use borrow.Author.Rules.{rules}
 use Rattle.remote.proofs.course.run.Goals as goal
 
 pub returns-then-n-eq0 : goal.returns-then-n-eq0

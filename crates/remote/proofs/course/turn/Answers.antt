@@ -1,5 +1,4 @@
 -- `remote::course::turn` meets its contract, by cases.
-use borrow.Author.Rules.{rules}
 use Rattle.remote.proofs.course.turn.Goals as goal
 
 pub plain-requires : goal.plain-requires

@@ -1,5 +1,4 @@
 -- `remote::frame::answer` meets its contract, by cases.
-use borrow.Author.Rules.{rules}
 use Rattle.remote.proofs.frame.answer.Goals as goal
 
 pub returns-in-Plain : goal.returns-in-Plain

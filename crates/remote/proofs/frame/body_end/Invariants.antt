@@ -1,12 +1,9 @@
 -- `remote::frame::body_end` meets its contract. The loop's invariant: the bytes of the body from `at` on end where those from 1 on do.
-use mathlib.Core.Path.{◌≡◌, refl, ap, sym, ◌∙◌}
-use mathlib.Core.Bool.{not}
+use mathlib.Core.Path.{◌≡◌}
 use Prim.Native.Nat.{◌+◌, ◌-◌}
 use lib.ListN.{length, drop}
 use Rattle.text.specs.Head.{head_of}
-use Rattle.text.proofs.Heads.{head_past, head_stops, head_goes}
 use Rattle.remote.specs.Heard.{in_body}
-use borrow.Author.Rules.{rules}
 use Rattle.remote.proofs.frame.body_end.Given as goal
 
 abbrev pub invariant-loop-at : goal.invariant-loop-at

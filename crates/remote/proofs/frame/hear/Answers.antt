@@ -1,7 +1,6 @@
 -- `remote::frame::hear` meets its contract.
 use mathlib.Core.Path.{sym, ◌∙◌}
 use Rattle.remote.proofs.Frames.{heard_none, told_outside, heard_packet}
-use borrow.Author.Rules.{rules}
 use Rattle.remote.proofs.frame.hear.Goals as goal
 
 pub returns-then-input-eq0 : goal.returns-then-input-eq0

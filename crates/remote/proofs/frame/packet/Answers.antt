@@ -1,7 +1,6 @@
 -- `remote::frame::packet` meets its contract.
 use mathlib.Core.Path.{sym, ◌∙◌}
 use Rattle.remote.proofs.Frames.{packet_open, packet_cut, packet_short, packet_wrong, packet_whole}
-use borrow.Author.Rules.{rules}
 use Rattle.remote.proofs.frame.packet.Goals as goal
 
 pub returns-then-input-end : goal.returns-then-input-end

@@ -1,12 +1,11 @@
 -- `remote::reply::put_body` meets its contract. The loop's invariant: the first i bytes are laid, and the checksum is theirs.
-use mathlib.Core.Path.{◌≡◌, refl}
-use Prim.Native.Nat.{◌-◌, ◌≤◌, ◌<◌}
+use mathlib.Core.Path.{refl}
+use Prim.Native.Nat.{◌≤◌, ◌<◌}
 use native.Mathlib.Omega.{arith}
-use lib.ListN.{length, take}
+use lib.ListN.{length}
 use lib.Seq.{take_all}
-use Rattle.text.specs.Laid.{Laid}
 use Rattle.text.proofs.Laying.{laid_none, laid_length}
-use Rattle.remote.specs.Sum.{total_of, sum_of}
+use Rattle.remote.specs.Sum.{total_of}
 use Rattle.remote.specs.Said.{body_of}
 use Rattle.remote.proofs.Bodies.{body_more, sum_next}
 use borrow.Author.Rules.{rules}

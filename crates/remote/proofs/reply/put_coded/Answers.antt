@@ -2,7 +2,6 @@
 use mathlib.Core.Path.{sym, ◌∙◌}
 use Rattle.text.proofs.Laying.{laid_then}
 use Rattle.remote.specs.Said.{coded_of}
-use borrow.Author.Rules.{rules}
 use Rattle.remote.proofs.reply.put_coded.Goals as goal
 
 pub returns-then-is_coded : goal.returns-then-is_coded

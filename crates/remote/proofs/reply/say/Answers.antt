@@ -2,7 +2,6 @@
 use mathlib.Core.Path.{refl}
 use Rattle.text.proofs.Laying.{laid_then}
 use Rattle.remote.proofs.Replies.{say_none, say_whole}
-use borrow.Author.Rules.{rules}
 use Rattle.remote.proofs.reply.say.Goals as goal
 
 pub returns-then-out-last : goal.returns-then-out-last

@@ -1,7 +1,6 @@
 -- `remote::sum::says` meets its contract.
 use borrow.Author.Tests.{le-ltb, lt-ltb}
 use Rattle.remote.specs.Sum.{says_of}
-use borrow.Author.Rules.{rules}
 use Rattle.remote.proofs.sum.says.Goals as goal
 
 pub returns-then-h-ge16 : goal.returns-then-h-ge16

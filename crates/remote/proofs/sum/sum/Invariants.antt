@@ -1,12 +1,8 @@
 -- `remote::sum::sum` meets its contract. The loop's invariant: the total is the checksum of the first i bytes.
-use mathlib.Core.Path.{◌≡◌, refl, ap, ◌∙◌}
-use Prim.Native.Nat.{◌-◌, ◌≤◌, ◌<◌}
-use native.Mathlib.Omega.{arith}
+use mathlib.Core.Path.{◌≡◌}
+use Prim.Native.Nat.{◌-◌, ◌≤◌}
 use lib.ListN.{length, take}
-use lib.Seq.{take_all}
-use Rattle.remote.specs.Sum.{total_of, sum_of}
-use Rattle.remote.proofs.Sums.{sum_more}
-use borrow.Author.Rules.{rules}
+use Rattle.remote.specs.Sum.{sum_of}
 use Rattle.remote.proofs.sum.sum.Given as goal
 
 abbrev pub invariant-loop-i : goal.invariant-loop-i
