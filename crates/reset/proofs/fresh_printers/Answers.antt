@@ -1,11 +1,7 @@
 -- `reset::fresh_printers` meets its contract. The invariant: the printers passed are fresh, and the rest is as it was.
-use borrow.Author.Rules.{rules}
-use mathlib.Core.Path.{◌≡◌, refl}
-use mathlib.Core.List.{◌++◌}
-use Prim.Native.Nat.{ℕ, ◌-◌, ◌≤◌}
+use mathlib.Core.Path.{refl}
+use Prim.Native.Nat.{ℕ}
 use native.Mathlib.Omega.{arith}
-use lib.ListN.{drop}
-use Rattle.word.specs.Lists.{tabulate}
 use Rattle.word.proofs.Lists.{fill_step, fill_end}
 use Rattle.word.specs.Map.{bit}
 use Rattle.reset.specs.Reset.{fresh_printer}

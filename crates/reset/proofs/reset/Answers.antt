@@ -1,6 +1,4 @@
 -- `reset::reset` meets its contract: one return for each answer.
-use borrow.Author.Rules.{rules}
-use borrow.Author.Tests.{not-true, not-false}
 use mathlib.Core.Path.{◌≡◌, sym, ap, ◌∙◌}
 use mathlib.Core.List.{List}
 use native.Mathlib.Omega.{arith}
@@ -34,53 +32,45 @@ returns-then-not-ranges_keep c =
     let a = c.args in
     refused a.image.now a.index.now a.scale a.delay a.installed _
     (says_bad_range a.image.now a.index.now a.scale a.delay a.installed (omega arith)
-    (sym c.ranges_keep.ensures ∙ not-true _ c.if-not-ranges_keep.true))
+    (sym c.ranges_keep.ensures ∙ c.if-not-ranges_keep.true))
 
 pub returns-then-not-any_index_fits : goal.returns-then-not-any_index_fits
 returns-then-not-any_index_fits c =
-    let ranged = c in
-    let a = ranged.args in
+    let a = c.args in
     refused a.image.now a.index.now a.scale a.delay a.installed _
     (says_bad_index a.image.now a.index.now a.scale a.delay a.installed (omega arith)
-    (sym ranged.ranges_keep.ensures ∙ not-false _ ranged.if-not-ranges_keep.false)
-    (sym c.any_index_fits.ensures ∙ not-true _ c.if-not-any_index_fits.true))
+    (sym c.ranges_keep.ensures ∙ c.if-not-ranges_keep.false)
+    (sym c.any_index_fits.ensures ∙ c.if-not-any_index_fits.true))
 
 pub overflow_cast-scale : goal.overflow_cast-scale
 overflow_cast-scale c =
-    let ranged = c in
-    let a = ranged.args in
-    let r = in_range a.scale a.delay a.installed (sym ranged.ranges_keep.ensures ∙ not-false _ ranged.if-not-ranges_keep.false) in
+    let a = c.args in
+    let r = in_range a.scale a.delay a.installed (sym c.ranges_keep.ensures ∙ c.if-not-ranges_keep.false) in
     omega arith
 
 pub overflow_cast-delay : goal.overflow_cast-delay
 overflow_cast-delay c =
-    let ranged = c in
-    let a = ranged.args in
-    let r = in_range a.scale a.delay a.installed (sym ranged.ranges_keep.ensures ∙ not-false _ ranged.if-not-ranges_keep.false) in
+    let a = c.args in
+    let r = in_range a.scale a.delay a.installed (sym c.ranges_keep.ensures ∙ c.if-not-ranges_keep.false) in
     omega arith
 
 pub overflow_cast-installed : goal.overflow_cast-installed
 overflow_cast-installed c =
-    let ranged = c in
-    let a = ranged.args in
-    let r = in_range a.scale a.delay a.installed (sym ranged.ranges_keep.ensures ∙ not-false _ ranged.if-not-ranges_keep.false) in
+    let a = c.args in
+    let r = in_range a.scale a.delay a.installed (sym c.ranges_keep.ensures ∙ c.if-not-ranges_keep.false) in
     omega arith
 
 pub returns : goal.returns
 returns c =
-    let emptied = c in
-    let encoded = emptied in
-    let checked = encoded in
-    let ranged = checked in
-    let a = ranged.args in
+    let a = c.args in
     let e =
-    says_done a.image.now a.index.now a.scale a.delay a.installed (omega (arith, ranged))
-    (sym ranged.ranges_keep.ensures ∙ not-false _ ranged.if-not-ranges_keep.false)
-    (sym checked.any_index_fits.ensures ∙ not-false _ checked.if-not-any_index_fits.false) in
+    says_done a.image.now a.index.now a.scale a.delay a.installed (omega arith)
+    (sym c.ranges_keep.ensures ∙ c.if-not-ranges_keep.false)
+    (sym c.any_index_fits.ensures ∙ c.if-not-any_index_fits.false) in
     record {
       answer_is = sym e;
       image_is =
-          encoded.encode.ensures ∙ ap bytes_of encoded.reset_machine-m.ensures
+          c.encode.ensures ∙ ap bytes_of c.reset_machine-m.ensures
           ∙ sym (ap (λ (r : Answer). image_after r a.image.now a.scale a.delay a.installed) e);
-      index_is = emptied.empty.ensures ∙ sym (ap (λ (r : Answer). index_after r a.index.now) e);
+      index_is = c.empty.ensures ∙ sym (ap (λ (r : Answer). index_after r a.index.now) e);
     }

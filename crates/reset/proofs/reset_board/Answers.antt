@@ -1,6 +1,5 @@
 -- `reset::reset_board` meets its contract.
 use Rattle.reset.specs.Reset.{reset_board}
-use borrow.Author.Rules.{rules}
 use Rattle.reset.proofs.reset_board.Goals as goal
 
 pub returns : goal.returns

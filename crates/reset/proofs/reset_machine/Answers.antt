@@ -1,6 +1,5 @@
 -- `reset::reset_machine` meets its contract.
 use Rattle.reset.specs.Reset.{reset_machine}
-use borrow.Author.Rules.{rules}
 use Rattle.reset.proofs.reset_machine.Goals as goal
 
 pub returns : goal.returns
