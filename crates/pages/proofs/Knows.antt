@@ -6,7 +6,7 @@ use Prim.Native.Nat.{ℕ, ◌+◌, ◌≤◌}
 use native.Mathlib.Omega.{arith}
 use lib.ListN.{length, get_or, set}
 use Rattle.tlb.specs.declared.Row.{Row}
-use Rattle.pages.specs.Pages.{key_of, page_of, frame_of, dirty_of, Told, Kept, Known, Inside}
+use Rattle.pages.specs.Pages.{key_of, page_of, frame_of, dirty_of, Told, Known, Inside}
 use Rattle.pages.proofs.Lands.{key_some, kept_inside}
 
 record Five (p : List ℕ) : Type 0 where

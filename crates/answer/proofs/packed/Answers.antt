@@ -1,6 +1,5 @@
 -- `answer::packed` meets its contract.
 use native.Mathlib.Omega.{arith}
-use borrow.Author.Rules.{rules}
 use Rattle.answer.proofs.packed.Goals as goal
 
 pub returns-in-Done : goal.returns-in-Done

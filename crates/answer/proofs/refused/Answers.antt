@@ -1,6 +1,5 @@
 -- `answer::refused` meets its contract.
 use mathlib.Core.Path.{refl}
-use borrow.Author.Rules.{rules}
 use Rattle.answer.proofs.refused.Goals as goal
 
 pub returns-in-Done : goal.returns-in-Done

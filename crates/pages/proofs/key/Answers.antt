@@ -1,8 +1,5 @@
 use mathlib.Core.Path.{refl}
 use Rattle.pages.specs.Pages.{key_of}
-use borrow.Author.Rules.{rules}
-use Rattle.pages.proofs.key.Reads as reads
-use Rattle.pages.proofs.key.Lts as lts
 use Rattle.pages.proofs.key.Goals as goal
 
 -- src/lib.rt:16:1

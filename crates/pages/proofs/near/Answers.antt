@@ -1,11 +1,5 @@
-use borrow.Author.Tests.{not-true, not-false, ne_eqb, eq-eqb}
+use borrow.Author.Tests.{ne_eqb, eq-eqb}
 use Rattle.pages.specs.Pages.{is_near}
-use borrow.Author.Rules.{rules}
-use Rattle.pages.proofs.near.Reads as reads
-use Rattle.pages.proofs.near.Lts as lts
-use Rattle.pages.proofs.key.Reads as key_reads
-use Rattle.reach.proofs.check.aligned.Reads as aligned-reads
-use Rattle.word.proofs.map.has_bit.Reads as has-bit-reads
 use Rattle.pages.proofs.near.Goals as goal
 
 -- src/lib.rt:98:9
@@ -16,9 +10,9 @@ returns-then-known-key c = rw (← c.key.ensures, ne_eqb _ _ c.if-known-key.true
 -- src/lib.rt:101:9
 pub returns-then-not-has_bit : goal.returns-then-not-has_bit
 unfolding is_near
-returns-then-not-has_bit c = rw (← c.key.ensures, eq-eqb _ _ c.if-known-key.false, ← c.has_bit.ensures, not-true c.has_bit.result c.if-not-has_bit.true)
+returns-then-not-has_bit c = rw (← c.key.ensures, eq-eqb _ _ c.if-known-key.false, ← c.has_bit.ensures, c.if-not-has_bit.true)
 
 -- src/lib.rt:94:1
 pub returns : goal.returns
 unfolding is_near
-returns c = rw (← c.key.ensures, eq-eqb _ _ c.if-known-key.false, ← c.has_bit.ensures, not-false c.has_bit.result c.if-not-has_bit.false) c.aligned.ensures
+returns c = rw (← c.key.ensures, eq-eqb _ _ c.if-known-key.false, ← c.has_bit.ensures, c.if-not-has_bit.false) c.aligned.ensures

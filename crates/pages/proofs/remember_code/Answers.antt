@@ -4,10 +4,6 @@ use native.Mathlib.Omega.{arith}
 use Rattle.pages.specs.Pages.{page_of}
 use Rattle.pages.proofs.Lands.{page_above}
 use Rattle.pages.proofs.Knows.{knows_code}
-use borrow.Author.Rules.{rules}
-use Rattle.pages.proofs.remember_code.Reads as reads
-use Rattle.pages.proofs.remember_code.Lts as lts
-use Rattle.pages.proofs.page.Reads as page-reads
 use Rattle.pages.proofs.remember_code.Goals as goal
 
 -- src/lib.rt:88:16

@@ -1,9 +1,3 @@
-use mathlib.Core.Path.{◌∙◌}
-use borrow.Author.Rules.{rules}
-use Rattle.pages.proofs.single.Reads as reads
-use Rattle.pages.proofs.single.Lts as lts
-use Rattle.pages.proofs.in_ram.Reads as in-ram-reads
-use Rattle.tlb.proofs.read.Reads as read-reads
 use Rattle.pages.proofs.single.Goals as goal
 
 -- src/lib.rt:39:1

@@ -1,5 +1,4 @@
 -- `roms::told` meets its contract.
-use borrow.Author.Rules.{rules}
 use Rattle.roms.proofs.told.Goals as goal
 
 pub returns-in-Done : goal.returns-in-Done
