@@ -1,13 +1,9 @@
 -- `convert::convert` meets its contract: one return for each answer.
-use Prim.Native.Nat.{ℕ}
 use mathlib.Core.Path.{sym, ap, ◌∙◌}
-use mathlib.Core.List.{List}
 use native.Mathlib.Omega.{arith}
-use borrow.Author.Rules.{rules}
 use borrow.Author.Tests.{not-true, not-false}
 use lib.ListN.{length}
 use Rattle.state.specs.Layout.{bytes_of}
-use Rattle.state.specs.declared.machine.Machine.{Machine}
 use Rattle.rules.specs.declared.Verdict.{Verdict}
 use Rattle.answer.specs.declared.Refusal.TheVariants.{Paper, Journal, Image}
 use Rattle.convert.specs.Convert.{emptied}
@@ -16,62 +12,44 @@ use Rattle.convert.proofs.convert.Goals as goal
 
 pub returns-then-not-paper_fits : goal.returns-then-not-paper_fits
 returns-then-not-paper_fits c =
-    let papered = c in
-    let a = papered.args in
+    let a = c.args in
     refused_is a.old.now a.image.now (length a.paper.now) (length a.journal.now) Paper
-    (says_bad_paper a.old.now a.image.now (length a.paper.now) (length a.journal.now) (sym papered.paper_fits.ensures ∙ not-true _ c.if-not-paper_fits.true))
+    (says_bad_paper a.old.now a.image.now (length a.paper.now) (length a.journal.now) (sym c.paper_fits.ensures ∙ c.if-not-paper_fits.true))
 
 pub returns-then-not-journal_before : goal.returns-then-not-journal_before
 returns-then-not-journal_before c =
-    let journaled = c in
-    let papered = journaled in
-    let a = papered.args in
+    let a = c.args in
     refused_is a.old.now a.image.now (length a.paper.now) (length a.journal.now) Journal
-    (says_bad_journal a.old.now a.image.now (length a.paper.now) (length a.journal.now) (sym papered.paper_fits.ensures ∙ not-false _ journaled.if-not-paper_fits.false)
-    (sym journaled.journal_before.ensures ∙ not-true _ c.if-not-journal_before.true))
+    (says_bad_journal a.old.now a.image.now (length a.paper.now) (length a.journal.now) (sym c.paper_fits.ensures ∙ c.if-not-paper_fits.false)
+    (sym c.journal_before.ensures ∙ c.if-not-journal_before.true))
 
 pub returns-then-old-ne-OLD : goal.returns-then-old-ne-OLD
 returns-then-old-ne-OLD c =
-    let journaled = c in
-    let papered = journaled in
-    let a = papered.args in
+    let a = c.args in
     refused_is a.old.now a.image.now (length a.paper.now) (length a.journal.now) Image
-    (says_bad_old a.old.now a.image.now (length a.paper.now) (length a.journal.now) (sym papered.paper_fits.ensures ∙ not-false _ journaled.if-not-paper_fits.false)
-    (sym journaled.journal_before.ensures ∙ not-false _ c.if-not-journal_before.false) c.if-old-ne-OLD.true)
+    (says_bad_old a.old.now a.image.now (length a.paper.now) (length a.journal.now) (sym c.paper_fits.ensures ∙ c.if-not-paper_fits.false)
+    (sym c.journal_before.ensures ∙ c.if-not-journal_before.false) c.if-old-ne-OLD.true)
 
 pub returns-then-image-ne-IMAGE : goal.returns-then-image-ne-IMAGE
 returns-then-image-ne-IMAGE c =
-    let journaled = c in
-    let papered = journaled in
-    let a = papered.args in
+    let a = c.args in
     refused_is a.old.now a.image.now (length a.paper.now) (length a.journal.now) Image
-    (says_bad_new a.old.now a.image.now (length a.paper.now) (length a.journal.now) (sym papered.paper_fits.ensures ∙ not-false _ journaled.if-not-paper_fits.false)
-    (sym journaled.journal_before.ensures ∙ not-false _ c.if-not-journal_before.false) (omega (arith, c)) c.if-image-ne-IMAGE.true)
+    (says_bad_new a.old.now a.image.now (length a.paper.now) (length a.journal.now) (sym c.paper_fits.ensures ∙ c.if-not-paper_fits.false)
+    (sym c.journal_before.ensures ∙ c.if-not-journal_before.false) (omega arith) c.if-image-ne-IMAGE.true)
 
 pub returns-then-not-verdict : goal.returns-then-not-verdict
 returns-then-not-verdict c =
-    let judged = c in
-    let sized = judged in
-    let journaled = sized in
-    let papered = journaled in
-    let a = papered.args in
+    let a = c.args in
     refused_is a.old.now a.image.now (length a.paper.now) (length a.journal.now) Image
-    (says_bad_rules a.old.now a.image.now (length a.paper.now) (length a.journal.now) (sym papered.paper_fits.ensures ∙ not-false _ journaled.if-not-paper_fits.false)
-    (sym journaled.journal_before.ensures ∙ not-false _ sized.if-not-journal_before.false) (omega (arith, sized)) (omega (arith, sized))
-    (sym (ap (λ (v : Verdict). v.keeps) judged.judged-verdict.ensures) ∙ not-true _ c.if-not-verdict.true))
+    (says_bad_rules a.old.now a.image.now (length a.paper.now) (length a.journal.now) (sym c.paper_fits.ensures ∙ c.if-not-paper_fits.false)
+    (sym c.journal_before.ensures ∙ c.if-not-journal_before.false) (omega arith) (omega arith)
+    (sym (ap (λ (v : Verdict). v.keeps) c.judged-verdict.ensures) ∙ not-true _ c.if-not-verdict.true))
 
 pub returns : goal.returns
 returns c =
-    let encoded = c in
-    let emptied-at = encoded in
-    let kept = emptied-at in
-    let judged = kept in
-    let sized = judged in
-    let journaled = sized in
-    let papered = journaled in
-    let a = papered.args in
+    let a = c.args in
     done_is a.old.now a.image.now (length a.paper.now) (length a.journal.now)
-    (says_done a.old.now a.image.now (length a.paper.now) (length a.journal.now) (sym papered.paper_fits.ensures ∙ not-false _ journaled.if-not-paper_fits.false)
-    (sym journaled.journal_before.ensures ∙ not-false _ sized.if-not-journal_before.false) (omega (arith, sized)) (omega (arith, sized))
-    (sym (ap (λ (v : Verdict). v.keeps) judged.judged-verdict.ensures) ∙ not-false _ kept.if-not-verdict.false))
-    (encoded.encode.ensures ∙ ap bytes_of emptied-at.emptied-m.ensures ∙ ap (λ (v : Verdict). bytes_of (emptied v.machine)) judged.judged-verdict.ensures)
+    (says_done a.old.now a.image.now (length a.paper.now) (length a.journal.now) (sym c.paper_fits.ensures ∙ c.if-not-paper_fits.false)
+    (sym c.journal_before.ensures ∙ c.if-not-journal_before.false) (omega arith) (omega arith)
+    (sym (ap (λ (v : Verdict). v.keeps) c.judged-verdict.ensures) ∙ not-false _ c.if-not-verdict.false))
+    (c.encode.ensures ∙ ap bytes_of c.emptied-m.ensures ∙ ap (λ (v : Verdict). bytes_of (emptied v.machine)) c.judged-verdict.ensures)

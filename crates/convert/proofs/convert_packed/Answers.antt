@@ -1,7 +1,6 @@
 -- `convert::convert_packed` meets its contract.
 use mathlib.Core.Path.{ap, ◌∙◌}
 use Rattle.answer.specs.Answer.{packed_of}
-use borrow.Author.Rules.{rules}
 use Rattle.convert.proofs.convert_packed.Goals as goal
 
 pub returns : goal.returns

@@ -1,5 +1,4 @@
 -- `convert::header_keeps` meets its contract, from what `word_at` ensures.
-use borrow.Author.Rules.{rules}
 use Rattle.convert.proofs.header_keeps.Goals as goal
 
 pub returns : goal.returns

@@ -1,5 +1,4 @@
 -- `convert::judged` meets its contract.
-use borrow.Author.Rules.{rules}
 use Rattle.convert.specs.Convert.{machine_before, keeps_before}
 use Rattle.convert.proofs.judged.Goals as goal
 

@@ -1,11 +1,9 @@
 -- `convert::widened` meets its contract. The invariant: the bytes passed are the old ones, and the rest is 0.
 use Prim.Native.Nat.{ℕ, ◌-◌, ◌≤◌}
-use mathlib.Core.Path.{◌≡◌, refl, ap, ◌∙◌}
-use mathlib.Core.List.{List, ◌++◌}
-use native.Mathlib.Omega.{arith}
-use lib.ListN.{get_or, drop, replicate}
+use mathlib.Core.Path.{◌≡◌}
+use mathlib.Core.List.{◌++◌}
+use lib.ListN.{get_or, drop}
 use Rattle.word.specs.Lists.{tabulate}
-use Rattle.word.proofs.Lists.{fill_step, tabulate_get_d}
 use Rattle.convert.proofs.widened.Given as goal
 
 abbrev pub invariant-loop-i : goal.invariant-loop-i
