@@ -1,5 +1,5 @@
 -- What a run holds of the core is the core: its words, and read back.
-use Rattle.core.specs.Prelude.{◌≡◌, ℕ, List, length, get_or}
+use Rattle.std.specs.Prelude.{◌≡◌, ℕ, List, length, get_or}
 use mathlib.Core.Path.{refl, sym, ap, ◌∙◌}
 use Rattle.word.specs.Lists.{tabulate}
 use Rattle.word.proofs.Lists.{tabulate_get_d}

@@ -1,5 +1,5 @@
 -- How a run holds the eight printers: as their forty words, in the order of the image and of a step's record.
-use Rattle.core.specs.Prelude.{◌≡◌, ℕ, ◌*◌, ◌<◌, ◌≤◌, true, cond, List, length, ◌==◌, nat_le, slice_index}
+use Rattle.std.specs.Prelude.{◌≡◌, ℕ, ◌*◌, ◌<◌, ◌≤◌, true, cond, List, length, ◌==◌, nat_le, slice_index}
 use Rattle.word.specs.Lists.{tabulate}
 use Rattle.word.specs.Sizes.{devices}
 use Rattle.printer.specs.declared.Printer.{Printer}

@@ -1,5 +1,5 @@
 -- How a run holds the core: as its fourteen words, in the order of the image and of a step's record.
-use Rattle.core.specs.Prelude.{ℕ, List, slice_index}
+use Rattle.std.specs.Prelude.{ℕ, List, slice_index}
 use Rattle.state.specs.declared.machine.Core.{Core}
 use Rattle.state.specs.Layout.{core_from}
 

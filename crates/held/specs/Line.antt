@@ -1,5 +1,5 @@
 -- What the moves of the printers' line leave of the forty words that a run holds. words' and paper' are what stands behind the references afterwards.
-use Rattle.core.specs.Prelude.{◌≡◌, ℕ, ◌<◌, Bool, true, false, cond, not, ◌&&◌, List, length, slice_index, slice_set}
+use Rattle.std.specs.Prelude.{◌≡◌, ℕ, ◌<◌, Bool, true, false, cond, not, ◌&&◌, List, length, slice_index, slice_set}
 use Rattle.word.specs.Map.{bit}
 use Rattle.printer.specs.Tick.{printing, room_of, place_of, is_busy, finishes, prints, printer_ticked, paper_ticked, ticked_of}
 use Rattle.printer.specs.Command.{command_of, data_of}

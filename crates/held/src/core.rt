@@ -1,5 +1,5 @@
 // How a run holds the core: as its fourteen words, so that a step's record copies them as they stand.
-ghost use Rattle.core.specs.Prelude.{◌≡◌};
+ghost use Rattle.std.specs.Prelude.{◌≡◌};
 ghost use Rattle.state.specs.Layout.{kept_words};
 ghost use Rattle.held.specs.Core.{core_in};
 

@@ -2,7 +2,7 @@
 // nowhere else.
 #![tactic(auto)]
 
-ghost use Rattle.core.specs.Prelude.{◌≡◌, ◌+◌, ◌<◌, ◌≤◌};
+ghost use Rattle.std.specs.Prelude.{◌≡◌, ◌+◌, ◌<◌, ◌≤◌};
 ghost use Rattle.std.proofs.lemmas.List.Edits.{sets};
 ghost use Rattle.word.specs.Lists.{flat};
 ghost use Rattle.state.specs.Layout.{printer_words};

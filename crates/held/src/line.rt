@@ -1,5 +1,5 @@
 // The printers' line where a run holds it: each printer is looked at and put back at its place among the forty words, and those that stand still are not written.
-ghost use Rattle.core.specs.Prelude.{◌≡◌, ℕ, ◌-◌, ◌<◌, ◌≤◌, true, length, if◌then◌else◌, ◌==◌, nat_eq};
+ghost use Rattle.std.specs.Prelude.{◌≡◌, ℕ, ◌-◌, ◌<◌, ◌≤◌, true, length, if◌then◌else◌, ◌==◌, nat_eq};
 ghost use Rattle.printer.specs.Tick.{any_ending};
 ghost use Rattle.printer.specs.Saved.{saved_paper_of};
 ghost use Rattle.held.specs.Board.{printer_in, printers_in, Waits, least_of};

@@ -1,5 +1,5 @@
 -- Whether a run goes on, before a step: `limit` is the step before which there is something to look at, `halts` whether the next step meets two matches.
-use Rattle.core.specs.Prelude.{ℕ, ◌+◌, Bool, true, false, cond, ◌==◌}
+use Rattle.std.specs.Prelude.{ℕ, ◌+◌, Bool, true, false, cond, ◌==◌}
 use Rattle.look.specs.declared.Stop.TheVariants.{Budget, TwoMatches}
 use Rattle.look.specs.declared.Look.{Look}
 

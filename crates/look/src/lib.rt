@@ -2,7 +2,7 @@
 // (law meets-one), so that all but the budget is passed over: `limit` is the step before which there is something to look at.
 #![tactic(auto)]
 
-ghost use Rattle.core.specs.Prelude.{◌≡◌, ◌≤◌, if◌then◌else◌};
+ghost use Rattle.std.specs.Prelude.{◌≡◌, ◌≤◌, if◌then◌else◌};
 ghost use Rattle.tlb.specs.Doubled.{doubled_in};
 ghost use Rattle.decide.specs.Lent.{lent_of, Whole};
 ghost use Rattle.meets.specs.Meets.{meets_two_of};

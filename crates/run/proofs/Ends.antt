@@ -1,5 +1,5 @@
 -- The parts that the loop opens a machine into are that machine, and so are those that it closes again.
-use Rattle.core.specs.Prelude.{◌≡◌, ℕ, Bool, length}
+use Rattle.std.specs.Prelude.{◌≡◌, ℕ, Bool, length}
 use mathlib.Core.Path.{refl, sym, ap, ◌∙◌}
 use Rattle.ring.specs.Run.{Config, ended}
 use Rattle.ring.specs.Run as ring

@@ -1,5 +1,5 @@
 -- The machine of documents 01 and 02 as `ring` runs it: the step, whether it enters an exception, whether it asks to halt before it (02, L5), the record that it writes, and the index beside it (02, L6).
-use Rattle.core.specs.Prelude.{◌≡◌, ℕ, ◌≤◌, Bool, length}
+use Rattle.std.specs.Prelude.{◌≡◌, ℕ, ◌≤◌, Bool, length}
 use Rattle.ring.specs.Machine.{Forward}
 use Rattle.ring.specs.Run.{Why, Config, Ran, ended, spent, excepted, halted}
 use Rattle.ring.specs.Run as ring

@@ -1,5 +1,5 @@
 -- The loop: the parts that it holds of a machine, and what it leaves of them.
-use Rattle.core.specs.Prelude.{◌≡◌, ℕ, ◌≤◌, Bool, length}
+use Rattle.std.specs.Prelude.{◌≡◌, ℕ, ◌≤◌, Bool, length}
 use Rattle.word.specs.Lists.{flat}
 use Rattle.word.specs.Sizes.{table_size}
 use Rattle.ring.specs.Run.{Config, ended}

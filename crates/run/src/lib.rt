@@ -2,7 +2,7 @@
 // and changed where they stand; the translation table is passed by value to what asks it, and handed back whole where a row is written.
 #![tactic(auto)]
 
-ghost use Rattle.core.specs.Prelude.{◌≡◌};
+ghost use Rattle.std.specs.Prelude.{◌≡◌};
 ghost use Rattle.turn.specs.Buffers.{beside_of};
 ghost use Rattle.run.specs.Run.{Fits, RunIs};
 ghost use Rattle.run.specs.Spin.{parts_of, machine_of, Ready, SpinIs};

@@ -1,5 +1,5 @@
 -- The effect, the PC pair and the slot by parts: what the functions of apply.rt leave is the decision applied.
-use Rattle.core.specs.Prelude.{◌≡◌, ℕ, List, []}
+use Rattle.std.specs.Prelude.{◌≡◌, ℕ, List, []}
 use mathlib.Core.Path.{refl, ap, ◌∙◌}
 use Rattle.board.specs.declared.places.Sizes.{Sizes}
 use Rattle.tlb.specs.declared.Row.{Row}

@@ -1,5 +1,5 @@
 -- The effect by parts is the effect: what functions that hold only some of a world's parts leave, put together.
-use Rattle.core.specs.Prelude.{◌≡◌, ℕ, List, length}
+use Rattle.std.specs.Prelude.{◌≡◌, ℕ, List, length}
 use mathlib.Core.Path.{refl, ap}
 use Rattle.board.specs.declared.places.Sizes.{Sizes}
 use Rattle.record.specs.declared.Saved.TheVariants as saved

@@ -1,5 +1,5 @@
 -- The moves of a step on the parts that a run holds, over plain values. While no printer works there is nothing to tick.
-use Rattle.core.specs.Prelude.{◌≡◌, ℕ, ◌-◌, ◌<◌, true, false, List, [], length}
+use Rattle.std.specs.Prelude.{◌≡◌, ℕ, ◌-◌, ◌<◌, true, false, List, [], length}
 use mathlib.Core.Path.{refl, sym, ap, ◌∙◌}
 use mathlib.Core.Bool.{and-false}
 use Rattle.clock.specs.declared.Beat.{Beat}

@@ -1,5 +1,5 @@
 -- What a step does to RAM and to the clock.
-use Rattle.core.specs.Prelude.{◌≡◌}
+use Rattle.std.specs.Prelude.{◌≡◌}
 use mathlib.Core.Path.{refl, ap, ◌∙◌}
 use Rattle.clock.specs.Tick.{time_of}
 use Rattle.clock.specs.declared.Clock.{Clock}

@@ -1,5 +1,5 @@
 -- The tick by parts: what the printers' tick, the clock's and the core's leave is the tick of the world.
-use Rattle.core.specs.Prelude.{◌≡◌, ℕ, Bool, true, false, not, ◌||◌, eqb, List, []}
+use Rattle.std.specs.Prelude.{◌≡◌, ℕ, Bool, true, false, not, ◌||◌, eqb, List, []}
 use mathlib.Core.Path.{refl, sym, ap, ◌∙◌}
 use Rattle.clock.specs.declared.Beat.{Beat}
 use Rattle.clock.specs.Tick as clock

@@ -1,5 +1,5 @@
 -- A step leaves register 0 at 0: an effect in range writes none but registers 1 to 31.
-use Rattle.core.specs.Prelude.{ℕ, ◌<◌, List, [], get_or, set}
+use Rattle.std.specs.Prelude.{ℕ, ◌<◌, List, [], get_or, set}
 use mathlib.Core.Path.{ap, ◌∙◌}
 use native.Mathlib.Omega.{arith}
 use lib.Seq.{get_or-set_other}

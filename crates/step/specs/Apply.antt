@@ -1,5 +1,5 @@
 -- What a decision leaves: its effect on the one kind of place that it names, the PC pair, and whether the next step is a slot. Nothing else changes.
-use Rattle.core.specs.Prelude.{ℕ, List, slice_set}
+use Rattle.std.specs.Prelude.{ℕ, List, slice_set}
 use Rattle.board.specs.declared.places.Sizes.{Sizes}
 use Rattle.bus.specs.Store.{bus_write_of}
 use Rattle.bus.specs.Stored.{line_stored, clock_stored, cause_stored}

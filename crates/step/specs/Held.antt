@@ -1,5 +1,5 @@
 -- What the step's moves leave of the parts that a run holds. core', words', paper', regs' and ram' are what stands behind the references afterwards.
-use Rattle.core.specs.Prelude.{◌≡◌, ℕ, List, [], length}
+use Rattle.std.specs.Prelude.{◌≡◌, ℕ, List, [], length}
 use Rattle.board.specs.declared.places.Sizes.{Sizes}
 use Rattle.bus.specs.declared.store.Store.{Store}
 use Rattle.printer.specs.Tick.{printing, ticked_of}

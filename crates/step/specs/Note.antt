@@ -1,5 +1,5 @@
 -- The record that a step writes: the small words, the printers and what is overwritten, all as they were before the step.
-use Rattle.core.specs.Prelude.{ℕ, ◌%◌, List, slice_index, slice_index_or}
+use Rattle.std.specs.Prelude.{ℕ, ◌%◌, List, slice_index, slice_index_or}
 use Rattle.memory.specs.Memory.{load_at}
 use Rattle.printer.specs.Saved.{saved_paper_of}
 use Rattle.tlb.specs.Entry.{no_row}

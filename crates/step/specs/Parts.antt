@@ -1,5 +1,5 @@
 -- The tick and the effect by parts, for functions that hold only some of them: proofs/Ticks.antt and Effects.antt show that together they are `tick_of` and `effect_of`.
-use Rattle.core.specs.Prelude.{ℕ, ◌%◌, Bool, cond, List, slice_index, slice_set}
+use Rattle.std.specs.Prelude.{ℕ, ◌%◌, Bool, cond, List, slice_index, slice_set}
 use Rattle.bus.specs.Store.{bus_write_of}
 use Rattle.bus.specs.Words.{bus_word_of}
 use Rattle.bus.specs.declared.read.Bus.{Bus}

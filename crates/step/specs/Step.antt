@@ -1,5 +1,5 @@
 -- ONE STEP, as document 01 has it: the tick, then interrupt entry or an instruction, decided from what the tick left, and its effect.
-use Rattle.core.specs.Prelude.{Bool, true, false}
+use Rattle.std.specs.Prelude.{Bool, true, false}
 use Rattle.decide.specs.Decide.{decide_of}
 use Rattle.meets.specs.Meets.{meets_two_of}
 use Rattle.decide.specs.Lent.{sizes_of}

@@ -1,6 +1,6 @@
 -- Document 01, "One step" 1 and 2, in three parts, by whose they are. Document 02, L13: "Clocks and devices tick on A's turns only and their interrupts go to A; Random
 -- ticks on its owner's turns."
-use Rattle.core.specs.Prelude.{ℕ, Bool, true, cond, List}
+use Rattle.std.specs.Prelude.{ℕ, Bool, true, cond, List}
 use Rattle.clock.specs.Tick as clock
 use Rattle.cp0.specs.Interrupt.{with_line}
 use Rattle.cp0.specs.Random.{random_of, top_entry}

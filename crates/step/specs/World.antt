@@ -1,5 +1,5 @@
 -- Everything that a step works on but the journal: the processor, the board, RAM and paper. The ROMs are beside it, since no step changes them.
-use Rattle.core.specs.Prelude.{ℕ, List}
+use Rattle.std.specs.Prelude.{ℕ, List}
 use Rattle.tlb.specs.declared.Row.{Row}
 use Rattle.state.specs.declared.machine.Core.{Core}
 use Rattle.state.specs.declared.machine.Cpu.{Cpu}

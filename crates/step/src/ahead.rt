@@ -1,5 +1,5 @@
 // The core as the next tick will leave it, worked out while nothing moves.
-ghost use Rattle.core.specs.Prelude.{◌≡◌};
+ghost use Rattle.std.specs.Prelude.{◌≡◌};
 ghost use Rattle.step.specs.Parts.{pending_ahead, ahead_of};
 
 use crate::tick::core_ticked;

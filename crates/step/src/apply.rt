@@ -1,6 +1,6 @@
 // The effect of a decision on registers, RAM and the printers' words, in place, and on the rest by value. A row of the table is the caller's to change: it holds the
 // table as a local and touches it only where the effect says so. Every variant has its own arm, so that each tells the proof which it is.
-ghost use Rattle.core.specs.Prelude.{◌≡◌, ◌+◌, ◌<◌, ◌≤◌, length};
+ghost use Rattle.std.specs.Prelude.{◌≡◌, ◌+◌, ◌<◌, ◌≤◌, length};
 ghost use Rattle.bus.specs.Stored.{InLine};
 ghost use Rattle.bus.specs.Words.{bus_word_of};
 ghost use Rattle.cp0.specs.Entry.{entered_of};

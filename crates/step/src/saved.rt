@@ -1,5 +1,5 @@
 // What a record keeps of the effect: the one register, row or RAM word that it overwrites.
-ghost use Rattle.core.specs.Prelude.{◌≡◌, ◌<◌, length, slice_index};
+ghost use Rattle.std.specs.Prelude.{◌≡◌, ◌<◌, length, slice_index};
 ghost use Rattle.decide.specs.Range.{Within};
 ghost use Rattle.step.specs.Parts.{old_row, saved_with};
 

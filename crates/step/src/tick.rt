@@ -1,5 +1,5 @@
 // Step parts 1 and 2: the clock group, Random, the printers, and both interrupt lines.
-ghost use Rattle.core.specs.Prelude.{◌≡◌, ◌≤◌, length};
+ghost use Rattle.std.specs.Prelude.{◌≡◌, ◌≤◌, length};
 ghost use Rattle.held.specs.Board.{Waits, Told};
 ghost use Rattle.step.specs.Tick.{random_ticked, rang_line, lines_ticked};
 ghost use Rattle.step.specs.Parts.{core_ticked};

@@ -1,5 +1,5 @@
 -- `held::unpacked` meets its contract. The invariant: the printers passed are read, and the rest is as it was.
-use Rattle.core.specs.Prelude.{◌≡◌, ◌-◌, ◌≤◌, ◌++◌, drop}
+use Rattle.std.specs.Prelude.{◌≡◌, ◌-◌, ◌≤◌, ◌++◌, drop}
 use mathlib.Core.Path.{refl}
 use native.Mathlib.Omega.{arith}
 use Rattle.word.specs.Lists.{tabulate}

@@ -1,5 +1,5 @@
 -- `run::run` meets its contract: the parts are opened, the loop runs on them, and they are closed again. The lengths of the printers and of the table are in what owning the machine tells.
-use Rattle.core.specs.Prelude.{◌≡◌, length}
+use Rattle.std.specs.Prelude.{◌≡◌, length}
 use lib.ListN.{length-map}
 use Rattle.turn.specs.Buffers.{beside_of}
 use Rattle.run.proofs.Ends.{opened_ready, spun_is}

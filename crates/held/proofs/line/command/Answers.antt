@@ -1,5 +1,5 @@
 -- `held::line::command` meets its contract.
-use Rattle.core.specs.Prelude.{Bool}
+use Rattle.std.specs.Prelude.{Bool}
 use mathlib.Core.Path.{sym, ap, ◌∙◌}
 use borrow.Author.Tests.{not-true, not-false}
 use Rattle.word.specs.Map.{with_bit}

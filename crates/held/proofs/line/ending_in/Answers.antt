@@ -1,5 +1,5 @@
 -- `held::line::ending_in` meets its contract. The invariant: `some` says whether one of the printers passed finishes.
-use Rattle.core.specs.Prelude.{◌≡◌, ◌-◌, ◌<◌, ◌≤◌}
+use Rattle.std.specs.Prelude.{◌≡◌, ◌-◌, ◌<◌, ◌≤◌}
 use mathlib.Core.Path.{refl}
 use native.Mathlib.Omega.{arith}
 use native.Mathlib.Numerals.{add-one}

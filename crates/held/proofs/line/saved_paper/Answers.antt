@@ -1,5 +1,5 @@
 -- `held::line::saved_paper` meets its contract. The invariant: the map and the bytes of the printers passed are made.
-use Rattle.core.specs.Prelude.{◌≡◌, ◌-◌, ◌<◌, ◌≤◌, cond, ◌++◌, get_or, drop}
+use Rattle.std.specs.Prelude.{◌≡◌, ◌-◌, ◌<◌, ◌≤◌, cond, ◌++◌, get_or, drop}
 use mathlib.Core.Path.{refl, sym, ap, ◌∙◌}
 use native.Mathlib.Omega.{arith}
 use native.Mathlib.Numerals.{add-one}

@@ -1,5 +1,5 @@
 -- `held::line::soon_in` meets its contract. The invariant: `soon` is true of the printers passed.
-use Rattle.core.specs.Prelude.{◌≡◌, ◌-◌, ◌<◌, ◌≤◌}
+use Rattle.std.specs.Prelude.{◌≡◌, ◌-◌, ◌<◌, ◌≤◌}
 use native.Mathlib.Omega.{arith}
 use Rattle.held.proofs.Soon.{WaitsTo, waits_to}
 use Rattle.held.proofs.line.soon_in.Goals as goal

@@ -1,7 +1,7 @@
 -- `held::line::wait_at` meets its contract (`waits`).
 use native.Mathlib.Omega.{arith}
 use mathlib.Core.Path.{ap}
-use Rattle.core.specs.Prelude.{ℕ, ◌+◌, ◌*◌, set}
+use Rattle.std.specs.Prelude.{ℕ, ◌+◌, ◌*◌, set}
 use Rattle.held.proofs.LineHeld.{waits}
 use borrow.Author.Rules.{rules}
 use Rattle.held.proofs.line.wait_at.Goals as goal
