@@ -1,5 +1,4 @@
 -- `record::decode::cp0` meets its contract: each field is the word that was read for it.
-use borrow.Author.Rules.{rules}
 use Rattle.record.proofs.decode.cp0.Goals as goal
 
 pub returns : goal.returns

@@ -1,5 +1,4 @@
 -- `record::decode::decode` meets its contract: each field is what its own function ensures.
-use borrow.Author.Rules.{rules}
 use Rattle.record.specs.Layout.{record_at, record_of}
 use Rattle.record.proofs.decode.decode.Goals as goal
 

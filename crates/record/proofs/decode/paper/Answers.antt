@@ -1,6 +1,5 @@
 -- `record::decode::paper` meets its contract: two words stored over eight bytes.
 use mathlib.Core.Path.{refl}
-use borrow.Author.Rules.{rules}
 use Rattle.record.specs.Layout.{slot_word}
 use Rattle.record.proofs.Stored.{paper_read}
 use Rattle.record.proofs.decode.paper.Goals as goal

@@ -1,11 +1,9 @@
 -- `record::decode::printers` meets its contract. The invariant: the printers passed are read, and the rest is as it was.
-use mathlib.Core.Path.{◌≡◌, refl}
+use mathlib.Core.Path.{◌≡◌}
 use mathlib.Core.List.{◌++◌}
 use Prim.Native.Nat.{◌-◌, ◌≤◌}
-use native.Mathlib.Omega.{arith}
 use lib.ListN.{drop}
 use Rattle.word.specs.Lists.{tabulate}
-use Rattle.word.proofs.Lists.{fill_step, fill_end}
 use Rattle.record.specs.Layout.{slot_word, printer_at}
 use Rattle.record.proofs.decode.printers.Given as goal
 

@@ -1,5 +1,4 @@
 -- `record::decode::saved` meets its contract: the four words, read as what was saved.
-use borrow.Author.Rules.{rules}
 use Rattle.record.specs.Layout.{record_at, record_of}
 use Rattle.record.proofs.decode.saved.Goals as goal
 

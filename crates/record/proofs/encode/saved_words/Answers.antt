@@ -1,5 +1,4 @@
 -- `record::encode::saved_words` meets its contract, variant by variant.
-use borrow.Author.Rules.{rules}
 use Rattle.record.proofs.encode.saved_words.Goals as goal
 
 pub returns-in-Register : goal.returns-in-Register

@@ -1,5 +1,4 @@
 -- `record::keeps::keeps_layout` meets its contract, test by test.
-use borrow.Author.Rules.{rules}
 use Rattle.record.specs.Keeps.{keeps_layout}
 use Rattle.record.proofs.keeps.keeps_layout.Goals as goal
 

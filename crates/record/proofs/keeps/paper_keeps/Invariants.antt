@@ -1,10 +1,8 @@
 -- `record::keeps::paper_keeps` meets its contract. The invariant: `ok` says whether every byte passed keeps the layout.
-use mathlib.Core.Path.{◌≡◌, refl}
+use mathlib.Core.Path.{◌≡◌}
 use Prim.Native.Nat.{◌-◌, ◌≤◌}
-use native.Mathlib.Omega.{arith}
-use native.Mathlib.Numerals.{add-one}
 use Rattle.word.specs.Lists.{every}
-use Rattle.record.specs.Keeps.{byte_keeps, paper_keeps}
+use Rattle.record.specs.Keeps.{byte_keeps}
 use Rattle.record.proofs.keeps.paper_keeps.Given as goal
 
 abbrev pub invariant-loop-n : goal.invariant-loop-n

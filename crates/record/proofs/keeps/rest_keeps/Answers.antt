@@ -1,12 +1,7 @@
 -- `record::keeps::rest_keeps` meets its contract. The invariant: `ok` says whether every word passed is 0.
 use mathlib.Core.Path.{◌≡◌, refl}
-use Prim.Native.Nat.{ℕ, ◌+◌, ◌-◌, ◌≤◌}
 use native.Mathlib.Omega.{arith}
 use native.Mathlib.Numerals.{add-one}
-use borrow.Author.Rules.{rules}
-use lib.Dec.{eqb}
-use Rattle.word.specs.Lists.{every}
-use Rattle.record.specs.Layout.{slot_word}
 use Rattle.record.proofs.keeps.rest_keeps.Goals as goal
 
 pub loop-k-init : goal.loop-k-init
