@@ -1,11 +1,11 @@
 -- `soon`: what it says of the printers stays true while they wait, and what is worked out anew is true.
-use Rattle.std.specs.Prelude.{◌≡◌, ℕ, zero, suc, ◌+◌, ◌-◌, ◌<◌, ◌≤◌, Bool, true, false, cond, ◌&&◌, ◌||◌, eqb, leb, List, [], length, get_or}
+use Rattle.std.specs.Prelude.{◌≡◌, ℕ, zero, suc, ◌+◌, ◌-◌, ◌<◌, ◌≤◌, Bool, true, false, cond, ◌&&◌, eqb, leb, List, [], get_or}
 use mathlib.Core.Path.{refl, sym, ap, subst, ◌∙◌}
 use mathlib.Core.Bool.{false≢true}
 use native.Mathlib.Omega.{arith}
 use borrow.Author.Tests.{eqb-true, eqb-false, leb-true, leb-false, lt-leb}
 use native.Mathlib.Decide.{dec_lt}
-use Rattle.printer.specs.Tick.{Printing, printing, no_printer, is_busy, finishes, prints, room_of, fallen, printer_ticked, ticks, some_of, any_busy}
+use Rattle.printer.specs.Tick.{Printing, printing, no_printer, is_busy, finishes, prints, room_of, fallen, printer_ticked, some_of, any_busy}
 use Rattle.printer.specs.declared.Printer.{Printer}
 use Rattle.printer.proofs.Passed.{passed}
 use Rattle.held.specs.Board.{printer_in, printers_in, Waits1, Waits, least_of}

@@ -27,6 +27,7 @@ outside (v ∷ vs) l at k (inr behind) =
 
 -- and in it
 pub inside : (vs l : List ℕ) (at j : ℕ) → j < length vs → at + length vs ≤ length l → get_or (sets l at vs) (at + j) 0 ≡ get_or vs j 0
+inside [] l at j few room = elim few [ ]
 inside (v ∷ vs) l at zero few room =
     ap (λ (k : ℕ). get_or (sets (set l at v) (suc at) vs) k 0) (add-zero at)
     ∙ outside vs (set l at v) (suc at) at (inl (omega arith))

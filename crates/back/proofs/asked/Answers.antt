@@ -21,10 +21,10 @@ pub returns-then-not-all_fit : goal.returns-then-not-all_fit
 returns-then-not-all_fit c =
     let near = c in
     let a = near.args in
-    asked_bad a.steps a.m a.ram a.paper a.journal.now near.if-hand-steps.false (sym c.all_fit.ensures ∙ not-true _ c.if-not-all_fit.true)
+    asked_bad a.steps a.m a.ram a.paper a.journal.now near.if-hand-steps.false (sym c.all_fit.ensures ∙ c.if-not-all_fit.true)
 
 pub returns : goal.returns
 returns c =
     let near = c in
     let a = near.args in
-    asked_done a.steps a.m a.ram a.paper a.journal.now near.if-hand-steps.false (sym c.all_fit.ensures ∙ not-false _ c.if-not-all_fit.false)
+    asked_done a.steps a.m a.ram a.paper a.journal.now near.if-hand-steps.false (sym c.all_fit.ensures ∙ c.if-not-all_fit.false)

@@ -22,7 +22,7 @@ returns-then-not-index_fits c =
     let asked = told in
     let start = asked in
     tried_index (lent start) start.args.steps start.requires.0 (ap how_of (sym told.in-Done.is) ∙ asked.asked.ensures)
-    (sym c.index_fits.ensures ∙ not-true _ c.if-not-index_fits.true)
+    (sym c.index_fits.ensures ∙ c.if-not-index_fits.true)
 
 pub done-requires : goal.done-requires
 done-requires c =
@@ -30,7 +30,7 @@ done-requires c =
     let told = left in
     let asked = told in
     let start = asked in
-    let fits = fits_back (lent start).beside start.requires.1.1 (sym left.index_fits.ensures ∙ not-false _ left.if-not-index_fits.false) in
+    let fits = fits_back (lent start).beside start.requires.1.1 (sym left.index_fits.ensures ∙ left.if-not-index_fits.false) in
     (start.requires.0, (start.requires.1.0, (fits, sym asked.asked.ensures ∙ ap how_of told.in-Done.is)))
 
 pub returns-in-TooFar : goal.returns-in-TooFar

@@ -39,7 +39,7 @@ returns-then-not-index_fits c =
     let start = judged in
     rw (bad_index (lent start) start.args.budget judged.if-image-ne-IMAGE.false
     (sym (ap (λ (v : Verdict). v.keeps) judged.judged-verdict.ensures) ∙ not-false _ fits.if-not-verdict.false) fits.if-budget-gt1000000.false
-    (sym fits.index_fits.ensures ∙ not-true _ c.if-not-index_fits.true))
+    (sym fits.index_fits.ensures ∙ c.if-not-index_fits.true))
 
 pub done-requires : goal.done-requires
 done-requires c =
@@ -48,7 +48,7 @@ done-requires c =
     let start = judged in
     let is = ap (λ (v : Verdict). v.machine-1) judged.judged-verdict.ensures in
     let keeps = sym (ap (λ (v : Verdict). v.keeps) judged.judged-verdict.ensures) ∙ not-false _ fits.if-not-verdict.false in
-    let framed = sym fits.index_fits.ensures ∙ not-false _ c.if-not-index_fits.false in
+    let framed = sym fits.index_fits.ensures ∙ c.if-not-index_fits.false in
     (is, (judged.if-image-ne-IMAGE.false, fits_run (lent start) start.requires keeps framed is))
 
 pub returns : goal.returns
@@ -58,5 +58,5 @@ returns c =
     let judged = fits in
     let start = judged in
     let keeps = sym (ap (λ (v : Verdict). v.keeps) judged.judged-verdict.ensures) ∙ not-false _ fits.if-not-verdict.false in
-    let framed = sym fits.index_fits.ensures ∙ not-false _ ran.if-not-index_fits.false in
+    let framed = sym fits.index_fits.ensures ∙ ran.if-not-index_fits.false in
     rw (all_passed (lent start) start.args.budget judged.if-image-ne-IMAGE.false keeps fits.if-budget-gt1000000.false framed) ran.done.ensures

@@ -1,8 +1,8 @@
 -- `held::packed` meets its contract. The invariant: the words of the printers passed are stored, and nothing else.
-use Rattle.std.specs.Prelude.{◌≡◌, ◌-◌, ◌<◌, ◌≤◌, length, take}
+use Rattle.std.specs.Prelude.{◌≡◌, ◌<◌, length}
 use mathlib.Core.Path.{refl, ◌∙◌}
 use native.Mathlib.Omega.{arith}
-use lib.Seq.{sets, take-length}
+use lib.Seq.{take-length}
 use Rattle.word.specs.Lists.{flat}
 use Rattle.word.proofs.Lists.{sets_whole, store_step}
 use Rattle.state.specs.Layout.{printer_words}

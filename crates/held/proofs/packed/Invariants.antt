@@ -1,12 +1,8 @@
 -- `held::packed` meets its contract. The invariant: the words of the printers passed are stored, and nothing else.
-use Rattle.std.specs.Prelude.{◌≡◌, ◌-◌, ◌<◌, ◌≤◌, length, take}
-use mathlib.Core.Path.{refl, ◌∙◌}
-use native.Mathlib.Omega.{arith}
-use lib.Seq.{sets, take-length}
+use Rattle.std.specs.Prelude.{◌≡◌, ◌-◌, ◌≤◌, take}
+use lib.Seq.{sets}
 use Rattle.word.specs.Lists.{flat}
-use Rattle.word.proofs.Lists.{sets_whole, store_step}
 use Rattle.state.specs.Layout.{printer_words}
-use Rattle.held.proofs.Board.{five_words, length_held}
 use Rattle.held.proofs.packed.Given as goal
 
 abbrev pub invariant-loop-n : goal.invariant-loop-n

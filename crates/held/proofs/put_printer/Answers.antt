@@ -1,6 +1,5 @@
 -- `held::put_printer` meets its contract.
 use Rattle.held.proofs.Board.{store_five}
-use borrow.Author.Rules.{rules}
 use Rattle.held.proofs.put_printer.Goals as goal
 
 pub returns : goal.returns

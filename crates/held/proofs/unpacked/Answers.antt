@@ -1,8 +1,6 @@
 -- `held::unpacked` meets its contract. The invariant: the printers passed are read, and the rest is as it was.
-use Rattle.std.specs.Prelude.{◌≡◌, ◌-◌, ◌≤◌, ◌++◌, drop}
 use mathlib.Core.Path.{refl}
 use native.Mathlib.Omega.{arith}
-use Rattle.word.specs.Lists.{tabulate}
 use Rattle.word.proofs.Lists.{fill_step, fill_end}
 use Rattle.held.specs.Board.{printer_in, printers_in}
 use Rattle.held.proofs.unpacked.Goals as goal

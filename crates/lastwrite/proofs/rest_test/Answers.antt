@@ -6,24 +6,24 @@ use Rattle.lastwrite.proofs.rest_test.Goals as goal
 
 pub returns-then-not-index_fits : goal.returns-then-not-index_fits
 unfolding rest_test
-returns-then-not-index_fits c = rw (sym c.index_fits.ensures ∙ not-true _ c.if-not-index_fits.true)
+returns-then-not-index_fits c = rw (sym c.index_fits.ensures ∙ c.if-not-index_fits.true)
 
 pub returns-then-not-word_fits : goal.returns-then-not-word_fits
 unfolding rest_test
 returns-then-not-word_fits c =
     let framed = c in
-    rw (sym framed.index_fits.ensures ∙ not-false _ framed.if-not-index_fits.false, sym c.word_fits.ensures ∙ not-true _ c.if-not-word_fits.true)
+    rw (sym framed.index_fits.ensures ∙ framed.if-not-index_fits.false, sym c.word_fits.ensures ∙ c.if-not-word_fits.true)
 
 pub returns-then-room-ne-ROOM : goal.returns-then-room-ne-ROOM
 unfolding rest_test
 returns-then-room-ne-ROOM c =
     let word = c in
     let framed = word in
-    rw (sym framed.index_fits.ensures ∙ not-false _ framed.if-not-index_fits.false, sym word.word_fits.ensures ∙ not-false _ word.if-not-word_fits.false, ne_eqb _ 16 c.if-room-ne-ROOM.true)
+    rw (sym framed.index_fits.ensures ∙ framed.if-not-index_fits.false, sym word.word_fits.ensures ∙ word.if-not-word_fits.false, ne_eqb _ 16 c.if-room-ne-ROOM.true)
 
 pub returns : goal.returns
 unfolding rest_test
 returns c =
     let word = c in
     let framed = word in
-    rw (sym framed.index_fits.ensures ∙ not-false _ framed.if-not-index_fits.false, sym word.word_fits.ensures ∙ not-false _ word.if-not-word_fits.false, eq-eqb _ 16 c.if-room-ne-ROOM.false)
+    rw (sym framed.index_fits.ensures ∙ framed.if-not-index_fits.false, sym word.word_fits.ensures ∙ word.if-not-word_fits.false, eq-eqb _ 16 c.if-room-ne-ROOM.false)

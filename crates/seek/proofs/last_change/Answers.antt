@@ -7,7 +7,7 @@ use borrow.Author.Rules.{rules}
 use Rattle.seek.proofs.last_change.Goals as goal
 
 pub returns-then-not-has_word : goal.returns-then-not-has_word
-returns-then-not-has_word c = no_word _ _ _ _ _ (sym c.has_word.ensures ∙ not-true _ c.if-not-has_word.true)
+returns-then-not-has_word c = no_word _ _ _ _ _ (sym c.has_word.ensures ∙ c.if-not-has_word.true)
 
 pub returns-then-not-fits : goal.returns-then-not-fits
 returns-then-not-fits c = unfit_change _ _ _ (sym c.fits2.ensures ∙ not-true _ c.if-not-fits.true) _ _
@@ -15,7 +15,7 @@ returns-then-not-fits c = unfit_change _ _ _ (sym c.fits2.ensures ∙ not-true _
 pub load_word-present-requires : goal.load_word-present-requires
 load_word-present-requires c =
     let ram = c.args.ram.now in
-    has_room ram _ (sym c.has_word.ensures ∙ not-false _ c.if-not-has_word.false)
+    has_room ram _ (sym c.has_word.ensures ∙ c.if-not-has_word.false)
 
 pub changed-requires : goal.changed-requires
 changed-requires c = fits _ _ _ (sym c.fits2.ensures ∙ not-false _ c.if-not-fits.false)
@@ -26,5 +26,5 @@ returns c =
     let has = fit in
     c.changed.ensures
     ∙ fit_change _ _ _ (sym fit.fits2.ensures ∙ not-false _ fit.if-not-fits.false) _ _
-    (sym has.has_word.ensures ∙ not-false _ has.if-not-has_word.false)
+    (sym has.has_word.ensures ∙ has.if-not-has_word.false)
     _ c.load_word-present.ensures

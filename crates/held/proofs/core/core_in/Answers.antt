@@ -1,6 +1,5 @@
 -- `held::core::core_in` meets its contract: the words in the order of the definition.
 use mathlib.Core.Path.{refl}
-use borrow.Author.Rules.{rules}
 use Rattle.held.specs.Core.{core_in}
 use Rattle.held.proofs.core.core_in.Goals as goal
 

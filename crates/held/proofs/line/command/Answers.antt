@@ -1,10 +1,8 @@
 -- `held::line::command` meets its contract.
 use Rattle.std.specs.Prelude.{Bool}
 use mathlib.Core.Path.{sym, ap, ◌∙◌}
-use borrow.Author.Tests.{not-true, not-false}
 use Rattle.word.specs.Map.{with_bit}
 use Rattle.held.proofs.LineHeld.{not_commanded, commanded_held}
-use borrow.Author.Rules.{rules}
 use Rattle.held.proofs.line.command.Goals as goal
 
 pub returns-then-not-takes_writes : goal.returns-then-not-takes_writes
@@ -14,7 +12,7 @@ returns-then-not-takes_writes c =
     let start = read in
     let a = start.args in
     not_commanded a.words.now a.n start.requires.0 start.requires.1 a.installed a.delay a.word a.pending read.printer_in-p.ensures
-    (sym asked.takes_writes.ensures ∙ not-true _ c.if-not-takes_writes.true)
+    (sym asked.takes_writes.ensures ∙ c.if-not-takes_writes.true)
 
 pub returns : goal.returns
 returns c =
@@ -24,5 +22,5 @@ returns c =
     let start = read in
     let a = start.args in
     commanded_held a.words.now a.n start.requires.0 start.requires.1 a.installed a.delay a.word a.pending read.printer_in-p.ensures
-    (sym asked.takes_writes.ensures ∙ not-false _ made.if-not-takes_writes.false) made.commanded-next.ensures c.put_printer.ensures
+    (sym asked.takes_writes.ensures ∙ made.if-not-takes_writes.false) made.commanded-next.ensures c.put_printer.ensures
     (c.with_bit.ensures ∙ ap (λ (b : Bool). with_bit a.n b a.pending) c.is_illegal.ensures)

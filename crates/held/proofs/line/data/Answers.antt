@@ -1,8 +1,6 @@
 -- `held::line::data` meets its contract.
 use mathlib.Core.Path.{sym, ◌∙◌}
-use borrow.Author.Tests.{not-true, not-false}
 use Rattle.held.proofs.LineHeld.{not_written, written_held}
-use borrow.Author.Rules.{rules}
 use Rattle.held.proofs.line.data.Goals as goal
 
 pub returns-then-not-takes_writes : goal.returns-then-not-takes_writes
@@ -12,7 +10,7 @@ returns-then-not-takes_writes c =
     let start = read in
     let a = start.args in
     not_written a.words.now a.n start.requires.0 start.requires.1 a.installed a.word read.printer_in-p.ensures
-    (sym asked.takes_writes.ensures ∙ not-true _ c.if-not-takes_writes.true)
+    (sym asked.takes_writes.ensures ∙ c.if-not-takes_writes.true)
 
 pub returns : goal.returns
 returns c =
@@ -21,4 +19,4 @@ returns c =
     let start = read in
     let a = start.args in
     written_held a.words.now a.n start.requires.0 start.requires.1 a.installed a.word read.printer_in-p.ensures
-    (sym asked.takes_writes.ensures ∙ not-false _ c.if-not-takes_writes.false) c.put_printer.ensures
+    (sym asked.takes_writes.ensures ∙ c.if-not-takes_writes.false) c.put_printer.ensures

@@ -1,10 +1,9 @@
 -- `held::line::ending_in` meets its contract. The invariant: `some` says whether one of the printers passed finishes.
-use Rattle.std.specs.Prelude.{◌≡◌, ◌-◌, ◌<◌, ◌≤◌}
+use Rattle.std.specs.Prelude.{◌≡◌, ◌<◌}
 use mathlib.Core.Path.{refl}
 use native.Mathlib.Omega.{arith}
 use native.Mathlib.Numerals.{add-one}
-use Rattle.printer.specs.Tick.{finishes, some_of}
-use Rattle.held.specs.Board.{printers_in}
+use Rattle.printer.specs.Tick.{some_of}
 use Rattle.held.proofs.Stored.{printer_at}
 use Rattle.held.proofs.line.ending_in.Goals as goal
 

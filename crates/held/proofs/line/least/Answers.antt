@@ -1,7 +1,6 @@
 -- `held::line::least` meets its contract: each way out has the tests that led there.
 use borrow.Author.Tests.{eq-eqb, ne_eqb, le-leb, lt-leb}
 use Rattle.held.specs.Board.{least_of}
-use borrow.Author.Rules.{rules}
 use Rattle.held.proofs.line.least.Goals as goal
 
 pub returns-then-words-n-ne-BUSY : goal.returns-then-words-n-ne-BUSY

@@ -1,6 +1,5 @@
 -- `held::line::saved_at` meets its contract: a printer that goes on prints nothing.
 use Rattle.held.proofs.LineHeld.{goes_on, looked_at}
-use borrow.Author.Rules.{rules}
 use Rattle.held.proofs.line.saved_at.Goals as goal
 
 pub returns-then-words-n-gt1 : goal.returns-then-words-n-gt1

@@ -1,9 +1,8 @@
 -- `held::line::saved_paper` meets its contract. The invariant: the map and the bytes of the printers passed are made.
-use Rattle.std.specs.Prelude.{◌≡◌, ◌-◌, ◌<◌, ◌≤◌, cond, ◌++◌, get_or, drop}
+use Rattle.std.specs.Prelude.{◌≡◌, ◌<◌, cond, get_or}
 use mathlib.Core.Path.{refl, sym, ap, ◌∙◌}
 use native.Mathlib.Omega.{arith}
 use native.Mathlib.Numerals.{add-one}
-use Rattle.word.specs.Lists.{tabulate}
 use Rattle.word.proofs.Lists.{fill_step, fill_end}
 use Rattle.printer.specs.Tick.{room_of, place_of, prints}
 use Rattle.printer.specs.Saved.{printing_map, saved_byte, saved_paper_of}

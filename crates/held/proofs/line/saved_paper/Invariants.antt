@@ -1,15 +1,9 @@
 -- `held::line::saved_paper` meets its contract. The invariant: the map and the bytes of the printers passed are made.
-use Rattle.std.specs.Prelude.{◌≡◌, ◌-◌, ◌<◌, ◌≤◌, cond, ◌++◌, get_or, drop}
-use mathlib.Core.Path.{refl, sym, ap, ◌∙◌}
-use native.Mathlib.Omega.{arith}
-use native.Mathlib.Numerals.{add-one}
+use Rattle.std.specs.Prelude.{◌≡◌, ◌-◌, ◌≤◌, ◌++◌, drop}
 use Rattle.word.specs.Lists.{tabulate}
-use Rattle.word.proofs.Lists.{fill_step, fill_end}
-use Rattle.printer.specs.Tick.{room_of, place_of, prints}
-use Rattle.printer.specs.Saved.{printing_map, saved_byte, saved_paper_of}
-use Rattle.printer.specs.declared.Printer.{Printer}
+use Rattle.printer.specs.Tick.{room_of}
+use Rattle.printer.specs.Saved.{printing_map, saved_byte}
 use Rattle.held.specs.Board.{printers_in}
-use Rattle.held.proofs.Stored.{printer_at}
 use Rattle.held.proofs.line.saved_paper.Given as goal
 
 abbrev pub invariant-loop-n : goal.invariant-loop-n

@@ -1,7 +1,7 @@
 -- `held::line::soon_in` meets its contract. The invariant: `soon` is true of the printers passed.
-use Rattle.std.specs.Prelude.{◌≡◌, ◌-◌, ◌<◌, ◌≤◌}
+use Rattle.std.specs.Prelude.{◌≡◌}
 use native.Mathlib.Omega.{arith}
-use Rattle.held.proofs.Soon.{WaitsTo, waits_to}
+use Rattle.held.proofs.Soon.{waits_to}
 use Rattle.held.proofs.line.soon_in.Goals as goal
 
 pub loop-n-init : goal.loop-n-init

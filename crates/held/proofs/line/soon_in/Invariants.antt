@@ -1,7 +1,6 @@
 -- `held::line::soon_in` meets its contract. The invariant: `soon` is true of the printers passed.
-use Rattle.std.specs.Prelude.{◌≡◌, ◌-◌, ◌<◌, ◌≤◌}
-use native.Mathlib.Omega.{arith}
-use Rattle.held.proofs.Soon.{WaitsTo, waits_to}
+use Rattle.std.specs.Prelude.{◌-◌, ◌≤◌}
+use Rattle.held.proofs.Soon.{WaitsTo}
 use Rattle.held.proofs.line.soon_in.Given as goal
 
 abbrev pub invariant-loop-n : goal.invariant-loop-n

@@ -1,5 +1,4 @@
 -- `held::line::takes_writes` meets its contract.
-use borrow.Author.Rules.{rules}
 use Rattle.held.proofs.line.takes_writes.Goals as goal
 
 pub returns : goal.returns

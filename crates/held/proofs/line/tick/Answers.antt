@@ -1,5 +1,5 @@
 -- `held::line::tick` meets its contract. The invariant: the printers passed have had their tick.
-use Rattle.std.specs.Prelude.{◌≡◌, ◌-◌, ◌<◌, ◌≤◌, length}
+use Rattle.std.specs.Prelude.{◌≡◌, ◌<◌}
 use mathlib.Core.Path.{refl, ◌∙◌}
 use native.Mathlib.Omega.{arith}
 use Rattle.printer.specs.Tick.{printing, ticks}

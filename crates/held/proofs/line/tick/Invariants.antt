@@ -1,11 +1,7 @@
 -- `held::line::tick` meets its contract. The invariant: the printers passed have had their tick.
-use Rattle.std.specs.Prelude.{◌≡◌, ◌-◌, ◌<◌, ◌≤◌, length}
-use mathlib.Core.Path.{refl, ◌∙◌}
-use native.Mathlib.Omega.{arith}
+use Rattle.std.specs.Prelude.{◌≡◌, ◌-◌, ◌≤◌, length}
 use Rattle.printer.specs.Tick.{printing, ticks}
-use Rattle.printer.proofs.Ticks.{ticks_on}
 use Rattle.held.specs.Board.{printers_in}
-use Rattle.held.proofs.LineHeld.{tick_held}
 use Rattle.held.proofs.line.tick.Given as goal
 
 abbrev pub invariant-loop-n : goal.invariant-loop-n

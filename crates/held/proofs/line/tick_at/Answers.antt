@@ -1,7 +1,6 @@
 -- `held::line::tick_at` meets its contract: a printer that stands still is left, one that goes on falls by a tick, any other is put back.
 use mathlib.Core.Path.{refl}
 use Rattle.held.proofs.LineHeld.{still, falls, worked}
-use borrow.Author.Rules.{rules}
 use Rattle.held.proofs.line.tick_at.Goals as goal
 
 pub returns-then-p-ne-BUSY : goal.returns-then-p-ne-BUSY

@@ -1,5 +1,5 @@
 -- `held::line::wait` meets its contract. The invariant: the printers passed have had their tick, and those ahead are as they were.
-use Rattle.std.specs.Prelude.{◌≡◌, ℕ, ◌-◌, ◌<◌, ◌≤◌, true, List, [], length, get_or}
+use Rattle.std.specs.Prelude.{◌≡◌, ℕ, ◌<◌, true, List, [], get_or}
 use mathlib.Core.Path.{refl, sym, ap, subst, ◌∙◌}
 use native.Mathlib.Omega.{arith}
 use Rattle.printer.specs.Tick.{Printing, printing, no_printer, is_busy, ticks}

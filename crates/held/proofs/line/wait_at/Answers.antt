@@ -1,9 +1,8 @@
 -- `held::line::wait_at` meets its contract (`waits`).
 use native.Mathlib.Omega.{arith}
 use mathlib.Core.Path.{ap}
-use Rattle.std.specs.Prelude.{ℕ, ◌+◌, ◌*◌, set}
+use Rattle.std.specs.Prelude.{◌+◌, ◌*◌, set}
 use Rattle.held.proofs.LineHeld.{waits}
-use borrow.Author.Rules.{rules}
 use Rattle.held.proofs.line.wait_at.Goals as goal
 
 pub waited-requires : goal.waited-requires

@@ -1,5 +1,4 @@
 -- `held::line::waited` meets its contract.
-use mathlib.Core.Path.{refl}
 use native.Mathlib.Omega.{arith}
 use borrow.Author.Tests.{eq-eqb, ne_eqb}
 use Rattle.held.proofs.line.waited.Goals as goal
