@@ -4,7 +4,6 @@ use native.Mathlib.Omega.{arith}
 use mathlib.Core.List.{List}
 use mathlib.Core.Path.{◌≡◌, sym, ap, ◌∙◌}
 use lib.ListN.{length}
-use borrow.Author.Rules.{rules}
 use borrow.Rule.Slice.PartMut.{put_mid}
 use Rattle.ring.specs.Slots.{slot}
 use Rattle.ring.proofs.Slots.{put_part, slot_part, length_slot}
@@ -18,15 +17,14 @@ use Rattle.journal.proofs.put_record.Goals as goal
 
 pub returns : goal.returns
 returns c =
-    let start = c in
-    let journal = start.args.journal.now in
-    let at : ℕ = 512 * start.args.next in
-    let core = start.args.core.now in
-    let words = start.args.words.now in
-    let r : Record = held_record core start.args.timer start.args.pending start.args.paper words in
-    let old : List ℕ = slot 512 journal start.args.next in
-    let same = laid_held core start.args.timer start.args.pending start.args.paper words old start.requires.1.0 start.requires.1.1 in
-    let room : length old ≡ 512 = length_slot 512 (length journal / 512) journal (omega arith) start.args.next start.requires.0 in
+    let journal = c.args.journal.now in
+    let at : ℕ = 512 * c.args.next in
+    let core = c.args.core.now in
+    let words = c.args.words.now in
+    let r : Record = held_record core c.args.timer c.args.pending c.args.paper words in
+    let old : List ℕ = slot 512 journal c.args.next in
+    let same = laid_held core c.args.timer c.args.pending c.args.paper words old c.requires.core_len c.requires.words_len in
+    let room : length old ≡ 512 = length_slot 512 (length journal / 512) journal (omega arith) c.args.next c.requires.next_in_bounds in
     let long : length (begun_in r old) ≡ 512 = length_begun r old (length_printers words) room in
-    ap (put_mid at (at + 512 - at) journal) (rw (slot_part 512 journal start.args.next) at c.encode.ensures ∙ same)
+    ap (put_mid at (at + 512 - at) journal) (rw (slot_part 512 journal c.args.next) at c.encode.ensures ∙ same)
     ∙ put_part journal at (at + 512) (begun_in r old) (ap (λ (n : ℕ). at + n) (sym long))
