@@ -1,5 +1,5 @@
 -- Safe and ending: up to the length of the shorter.
-use Rattle.std.proofs.Common.{◌≡◌, ◌-◌, ◌≤◌, length, rules}
+use Rattle.std.proofs.Common.{◌-◌, ◌≤◌, length}
 use Rattle.differ.proofs.counting.Given as goal
 
 abbrev pub invariant-loop-i : goal.invariant-loop-i

@@ -1,5 +1,5 @@
 -- Safe and ending: the words of an image, in a buffer that keeps its length.
-use Rattle.std.proofs.Common.{◌≡◌, ◌-◌, ◌≤◌, length, rules}
+use Rattle.std.proofs.Common.{◌≡◌, ◌-◌, ◌≤◌, length}
 use Rattle.differ.proofs.words.Given as goal
 
 abbrev pub invariant-loop-k : goal.invariant-loop-k

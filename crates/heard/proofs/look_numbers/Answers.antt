@@ -1,5 +1,4 @@
 -- `heard::look_numbers` meets its contract, from what its three parts ensure.
-use borrow.Author.Rules.{rules}
 use Rattle.heard.proofs.look_numbers.Goals as goal
 
 pub returns : goal.returns

@@ -1,5 +1,4 @@
 -- `heard::numbers` meets its contract, by cases.
-use borrow.Author.Rules.{rules}
 use Rattle.heard.proofs.numbers.Goals as goal
 
 pub returns-in-Nothing : goal.returns-in-Nothing
