@@ -1,7 +1,6 @@
 -- `seek::changed` meets its contract. The invariant is `Scanned`: the records passed left the word as it is.
-use borrow.Author.Rules.{rules}
 use Prim.Native.Nat.{◌-◌}
-use Rattle.seek.proofs.Loops.{Scanned, scanned_start, scanned_more, scanned_stops, scanned_ends}
+use Rattle.seek.proofs.Loops.{Scanned}
 use Rattle.seek.proofs.changed.Given as goal
 
 abbrev pub invariant-loop-k : goal.invariant-loop-k

@@ -1,16 +1,14 @@
 -- `seek::last_change` meets its contract.
-use borrow.Author.Tests.{not-true, not-false}
 use mathlib.Core.Path.{sym, ◌∙◌}
 use Rattle.seek.proofs.OnHand.{fits}
 use Rattle.seek.proofs.Guards.{has_room, no_word, unfit_change, fit_change}
-use borrow.Author.Rules.{rules}
 use Rattle.seek.proofs.last_change.Goals as goal
 
 pub returns-then-not-has_word : goal.returns-then-not-has_word
 returns-then-not-has_word c = no_word _ _ _ _ _ (sym c.has_word.ensures ∙ c.if-not-has_word.true)
 
 pub returns-then-not-fits : goal.returns-then-not-fits
-returns-then-not-fits c = unfit_change _ _ _ (sym c.fits2.ensures ∙ not-true _ c.if-not-fits.true) _ _
+returns-then-not-fits c = unfit_change _ _ _ (sym c.fits.ensures ∙ c.if-not-fits.true) _ _
 
 pub load_word-present-requires : goal.load_word-present-requires
 load_word-present-requires c =
@@ -18,13 +16,11 @@ load_word-present-requires c =
     has_room ram _ (sym c.has_word.ensures ∙ c.if-not-has_word.false)
 
 pub changed-requires : goal.changed-requires
-changed-requires c = fits _ _ _ (sym c.fits2.ensures ∙ not-false _ c.if-not-fits.false)
+changed-requires c = fits _ _ _ (sym c.fits.ensures ∙ c.if-not-fits.false)
 
 pub returns : goal.returns
 returns c =
-    let fit = c in
-    let has = fit in
     c.changed.ensures
-    ∙ fit_change _ _ _ (sym fit.fits2.ensures ∙ not-false _ fit.if-not-fits.false) _ _
-    (sym has.has_word.ensures ∙ has.if-not-has_word.false)
+    ∙ fit_change _ _ _ (sym c.fits.ensures ∙ c.if-not-fits.false) _ _
+    (sym c.has_word.ensures ∙ c.if-not-has_word.false)
     _ c.load_word-present.ensures

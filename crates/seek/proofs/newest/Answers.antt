@@ -1,7 +1,5 @@
 -- `seek::newest` meets its contract. The invariant is `Passed`: no record passed is at the PC.
-use borrow.Author.Rules.{rules}
-use Prim.Native.Nat.{◌-◌}
-use Rattle.seek.proofs.Loops.{Passed, passed_start, passed_more, passed_stops, passed_ends}
+use Rattle.seek.proofs.Loops.{passed_start, passed_more, passed_stops, passed_ends}
 use Rattle.seek.proofs.newest.Goals as goal
 
 pub loop-k-init : goal.loop-k-init

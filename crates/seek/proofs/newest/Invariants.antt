@@ -1,7 +1,6 @@
 -- `seek::newest` meets its contract. The invariant is `Passed`: no record passed is at the PC.
-use borrow.Author.Rules.{rules}
 use Prim.Native.Nat.{◌-◌}
-use Rattle.seek.proofs.Loops.{Passed, passed_start, passed_more, passed_stops, passed_ends}
+use Rattle.seek.proofs.Loops.{Passed}
 use Rattle.seek.proofs.newest.Given as goal
 
 abbrev pub invariant-loop-k : goal.invariant-loop-k

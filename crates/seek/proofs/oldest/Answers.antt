@@ -1,6 +1,5 @@
 -- `seek::oldest` meets its contract. The invariant is `Remaining`: no record passed is at the PC.
-use borrow.Author.Rules.{rules}
-use Rattle.seek.proofs.Loops.{Remaining, remaining_start, remaining_more, remaining_stops, remaining_ends}
+use Rattle.seek.proofs.Loops.{remaining_start, remaining_more, remaining_stops, remaining_ends}
 use Rattle.seek.proofs.oldest.Goals as goal
 
 pub loop-left-init : goal.loop-left-init

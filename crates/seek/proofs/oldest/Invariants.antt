@@ -1,6 +1,5 @@
 -- `seek::oldest` meets its contract. The invariant is `Remaining`: no record passed is at the PC.
-use borrow.Author.Rules.{rules}
-use Rattle.seek.proofs.Loops.{Remaining, remaining_start, remaining_more, remaining_stops, remaining_ends}
+use Rattle.seek.proofs.Loops.{Remaining}
 use Rattle.seek.proofs.oldest.Given as goal
 
 abbrev pub invariant-loop-left : goal.invariant-loop-left

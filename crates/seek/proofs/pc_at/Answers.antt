@@ -2,7 +2,6 @@
 use mathlib.Core.Path.{sym, ap, ◌∙◌}
 use Rattle.seek.specs.Seek.{pc_of}
 use Rattle.seek.proofs.Words.{pc_is}
-use borrow.Author.Rules.{rules}
 use Rattle.seek.proofs.pc_at.Goals as goal
 
 pub returns : goal.returns

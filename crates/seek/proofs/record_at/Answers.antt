@@ -1,7 +1,6 @@
 -- `seek::record_at` meets its contract: what is lent is the slot that `slot_back` tells.
 use native.Mathlib.Omega.{arith}
 use Rattle.seek.proofs.OnHand.{kth_part, kth_long}
-use borrow.Author.Rules.{rules}
 use Rattle.seek.proofs.record_at.Goals as goal
 
 pub returns : goal.returns

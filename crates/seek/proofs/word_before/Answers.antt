@@ -1,7 +1,6 @@
 -- `seek::word_before` meets its contract, from the words that it reads.
 use mathlib.Core.Path.{sym, ◌∙◌}
 use Rattle.seek.proofs.Words.{other_kind, other_place, same_place}
-use borrow.Author.Rules.{rules}
 use Rattle.seek.proofs.word_before.Goals as goal
 
 pub returns-then-word-ne-RAM : goal.returns-then-word-ne-RAM
