@@ -8,7 +8,7 @@ ghost use Rattle.word.specs.Lists.{flat};
 ghost use Rattle.state.specs.Layout.{printer_words};
 ghost use Rattle.held.specs.Board.{printer_in, printers_in};
 
-pub mod core; // the core, as its fourteen words
+pub mod core_words; // the core, as its fourteen words
 pub mod line; // the moves of the printers' line
 
 use clock::Clock;

@@ -12,7 +12,7 @@ ghost use Rattle.state.specs.Layout.{HoldsZero};
 ghost use Rattle.look.specs.Look.{look_of};
 
 use held::Held;
-use held::core::core_in;
+use held::core_words::core_in;
 use meets::meets_two;
 use step::ahead::ahead;
 use tlb::Row;

@@ -9,7 +9,7 @@ ghost use Rattle.run.specs.Spin.{parts_of, machine_of, Ready, SpinIs};
 
 use decide::effect::Effect;
 use decide::step::decide;
-use held::core::{core_in, core_words};
+use held::core_words::{core_in, core_words};
 use held::{Held, packed, unpacked};
 use look::{Stop, looked, next_look};
 use pages::follow;

@@ -21,7 +21,7 @@ use clock::Clock;
 use cp0::entry::{Exception, entered};
 use cp0::registers::{Cp0, with_entry, with_register};
 use decide::effect::{Decision, Effect};
-use held::core::{core_in, put_core};
+use held::core_words::{core_in, put_core};
 use held::line::{command, data};
 use held::{Held, printer_in};
 use isa::instr::ControlRegister;

@@ -10,7 +10,7 @@ use cp0::interrupt::with_line;
 use cp0::random::next_random;
 use cp0::registers::Cp0;
 use held::Held;
-use held::core::{core_in, put_core};
+use held::core_words::{core_in, put_core};
 use held::line::{soon_in, tick, wait};
 use printer::cause::shown;
 use state::machine::{Core, Settings};

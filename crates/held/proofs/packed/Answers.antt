@@ -15,8 +15,7 @@ loop-n-init c = (omega arith, refl)
 pub loop-n-preserved : goal.loop-n-preserved
 loop-n-preserved c =
     let l = c.loop-n in
-    let start = c in
-    let ps = start.args.printers in
+    let ps = c.args.printers in
     let inside : l.n < length ps = omega arith in (
       omega arith,
       c.put_printer.ensures ∙ rw l.invariant.1 (store_step 5 printer_words five_words ps _ _ 0 l.n _ inside (omega arith)),
@@ -25,8 +24,7 @@ loop-n-preserved c =
 pub returns : goal.returns
 returns c =
     let l = c.loop-n in
-    let start = c in
-    let ps = start.args.printers in
+    let ps = c.args.printers in
     let all : l.n ≡ length ps = omega arith in
     let eight : length ps ≡ 8 = omega arith in
     l.invariant.1 ∙ rw (all, take-length ps) (sets_whole _ (flat printer_words ps) (length_held ps eight))

@@ -7,20 +7,13 @@ use Rattle.held.proofs.line.command.Goals as goal
 
 pub returns-then-not-takes_writes : goal.returns-then-not-takes_writes
 returns-then-not-takes_writes c =
-    let asked = c in
-    let read = asked in
-    let start = read in
-    let a = start.args in
-    not_commanded a.words.now a.n start.requires.0 start.requires.1 a.installed a.delay a.word a.pending read.printer_in-p.ensures
-    (sym asked.takes_writes.ensures ∙ c.if-not-takes_writes.true)
+    let a = c.args in
+    not_commanded a.words.now a.n c.requires.0 c.requires.1 a.installed a.delay a.word a.pending c.printer_in-p.ensures
+    (sym c.takes_writes.ensures ∙ c.if-not-takes_writes.true)
 
 pub returns : goal.returns
 returns c =
-    let made = c in
-    let asked = made in
-    let read = asked in
-    let start = read in
-    let a = start.args in
-    commanded_held a.words.now a.n start.requires.0 start.requires.1 a.installed a.delay a.word a.pending read.printer_in-p.ensures
-    (sym asked.takes_writes.ensures ∙ made.if-not-takes_writes.false) made.commanded-next.ensures c.put_printer.ensures
+    let a = c.args in
+    commanded_held a.words.now a.n c.requires.0 c.requires.1 a.installed a.delay a.word a.pending c.printer_in-p.ensures
+    (sym c.takes_writes.ensures ∙ c.if-not-takes_writes.false) c.commanded-next.ensures c.put_printer.ensures
     (c.with_bit.ensures ∙ ap (λ (b : Bool). with_bit a.n b a.pending) c.is_illegal.ensures)

@@ -5,18 +5,12 @@ use Rattle.held.proofs.line.data.Goals as goal
 
 pub returns-then-not-takes_writes : goal.returns-then-not-takes_writes
 returns-then-not-takes_writes c =
-    let asked = c in
-    let read = asked in
-    let start = read in
-    let a = start.args in
-    not_written a.words.now a.n start.requires.0 start.requires.1 a.installed a.word read.printer_in-p.ensures
-    (sym asked.takes_writes.ensures ∙ c.if-not-takes_writes.true)
+    let a = c.args in
+    not_written a.words.now a.n c.requires.0 c.requires.1 a.installed a.word c.printer_in-p.ensures
+    (sym c.takes_writes.ensures ∙ c.if-not-takes_writes.true)
 
 pub returns : goal.returns
 returns c =
-    let asked = c in
-    let read = asked in
-    let start = read in
-    let a = start.args in
-    written_held a.words.now a.n start.requires.0 start.requires.1 a.installed a.word read.printer_in-p.ensures
-    (sym asked.takes_writes.ensures ∙ c.if-not-takes_writes.false) c.put_printer.ensures
+    let a = c.args in
+    written_held a.words.now a.n c.requires.0 c.requires.1 a.installed a.word c.printer_in-p.ensures
+    (sym c.takes_writes.ensures ∙ c.if-not-takes_writes.false) c.put_printer.ensures

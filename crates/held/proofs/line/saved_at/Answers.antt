@@ -9,6 +9,5 @@ returns-then-words-n-gt1 c =
 
 pub returns : goal.returns
 returns c =
-    let read = c in
-    let a = read.args in
-    looked_at a.words.now a.n a.paper.now read.printer_in-p.ensures c.prints.ensures c.saved_byte.ensures
+    let a = c.args in
+    looked_at a.words.now a.n a.paper.now c.printer_in-p.ensures c.prints.ensures c.saved_byte.ensures

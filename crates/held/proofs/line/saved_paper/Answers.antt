@@ -18,15 +18,14 @@ loop-n-init c = (omega arith, refl, refl)
 pub loop-n-preserved : goal.loop-n-preserved
 unfolding printing_map
 loop-n-preserved c =
-    let kept = c in
-    let l = kept.loop-n in
-    let a = kept.args in
+    let l = c.loop-n in
+    let a = c.args in
     let few : l.n < 8 = omega arith in
     let same = sym (printer_at a.words.now l.n few) in
     let room = room_of a.paper.now in
-    let one = kept.saved_at-one.ensures.byte_is ∙ ap (λ (q : Printer). cond (prints room q) (get_or a.paper.now (place_of room l.n q.count) 0) 0) same in (
+    let one = c.saved_at-one.ensures.byte_is ∙ ap (λ (q : Printer). cond (prints room q) (get_or a.paper.now (place_of room l.n q.count) 0) 0) same in (
       omega arith,
-      rw (add-one l.n, c.with_bit-mask.ensures, kept.saved_at-one.ensures.on_is ∙ ap (prints room) same, l.invariant.1),
+      rw (add-one l.n, c.with_bit-mask.ensures, c.saved_at-one.ensures.on_is ∙ ap (prints room) same, l.invariant.1),
       rw one (fill_step (saved_byte (printers_in a.words.now) a.paper.now) _ l.bytes l.n (omega arith) l.invariant.2),
     )
 

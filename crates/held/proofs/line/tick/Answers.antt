@@ -15,8 +15,7 @@ loop-n-init c = (omega arith, c.requires.0, refl, refl)
 pub tick_at-finished-requires : goal.tick_at-finished-requires
 tick_at-finished-requires c =
     let l = c.loop-n in
-    let start = c in
-    (omega arith, l.invariant.1, omega (arith, l.invariant.2, start.requires.1))
+    (omega arith, l.invariant.1, omega (arith, l.invariant.2, c.requires.1))
 
 pub loop-n-preserved : goal.loop-n-preserved
 loop-n-preserved c =

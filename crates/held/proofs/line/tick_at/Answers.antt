@@ -5,21 +5,15 @@ use Rattle.held.proofs.line.tick_at.Goals as goal
 
 pub returns-then-p-ne-BUSY : goal.returns-then-p-ne-BUSY
 returns-then-p-ne-BUSY c =
-    let start = c in
-    let a = start.args in
-    still a.words.now a.n start.requires.0 start.requires.1 a.paper.now c.printer_in-p.ensures c.if-p-ne-BUSY.true
+    let a = c.args in
+    still a.words.now a.n c.requires.0 c.requires.1 a.paper.now c.printer_in-p.ensures c.if-p-ne-BUSY.true
 
 pub returns-then-p-gt1 : goal.returns-then-p-gt1
 returns-then-p-gt1 c =
-    let read = c in
-    let start = read in
-    let a = start.args in
-    falls a.words.now a.n start.requires.0 start.requires.1 a.paper.now read.printer_in-p.ensures c.if-p-ne-BUSY.false c.if-p-gt1.true refl
+    let a = c.args in
+    falls a.words.now a.n c.requires.0 c.requires.1 a.paper.now c.printer_in-p.ensures c.if-p-ne-BUSY.false c.if-p-gt1.true refl
 
 pub returns : goal.returns
 returns c =
-    let ticked = c in
-    let read = ticked in
-    let start = read in
-    let a = start.args in
-    worked a.words.now a.n start.requires.0 start.requires.1 a.paper.now read.printer_in-p.ensures ticked.tick_one-one.ensures c.put_printer.ensures
+    let a = c.args in
+    worked a.words.now a.n c.requires.0 c.requires.1 a.paper.now c.printer_in-p.ensures c.tick_one-one.ensures c.put_printer.ensures

@@ -13,9 +13,9 @@ use Rattle.held.proofs.Stored.{printer_at}
 use Rattle.held.proofs.line.wait.Goals as goal
 
 -- a printer ahead is as it was
-ahead-goes : (words₀ words : List ℕ) (n : ℕ) → n < 8 →
+ahead_goes : (words₀ words : List ℕ) (n : ℕ) → n < 8 →
     ((pending : ℕ) (paper : List ℕ) → printing (printers_in words) pending paper ≡ ticks n (printing (printers_in words₀) pending paper)) → GoesOn words₀ n → GoesOn words n
-ahead-goes words₀ words n few done goes =
+ahead_goes words₀ words n few done goes =
     let same : printer_in words n ≡ printer_in words₀ n =
     sym (printer_at words n few) ∙ ap (λ (s : Printing). get_or s.line.printers n no_printer) (done 0 [])
     ∙ not_passed (printing (printers_in words₀) 0 []) n n (omega arith) ∙ printer_at words₀ n few in
@@ -28,9 +28,8 @@ loop-n-init c = (omega arith, c.requires.0, λ pending paper. refl)
 pub wait_at-requires : goal.wait_at-requires
 wait_at-requires c =
     let l = c.loop-n in
-    let start = c in
     let few : l.n < 8 = omega arith in
-    (few, l.invariant.1, ahead-goes start.args.words.now l.words l.n few l.invariant.2 (start.requires.1 l.n few))
+    (few, l.invariant.1, ahead_goes c.args.words.now l.words l.n few l.invariant.2 (c.requires.1 l.n few))
 
 pub loop-n-preserved : goal.loop-n-preserved
 loop-n-preserved c =

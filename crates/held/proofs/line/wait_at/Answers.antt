@@ -9,4 +9,4 @@ pub waited-requires : goal.waited-requires
 waited-requires c = λ e. let more = c.requires.2 e in omega (arith, more)
 
 pub returns : goal.returns
-returns c = let start = c in let a = start.args in waits a.words.now a.n start.requires.0 start.requires.1 start.requires.2 (ap (set a.words.now (5 * a.n + 3)) c.waited.ensures)
+returns c = let a = c.args in waits a.words.now a.n c.requires.0 c.requires.1 c.requires.2 (ap (set a.words.now (5 * a.n + 3)) c.waited.ensures)

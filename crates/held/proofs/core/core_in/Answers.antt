@@ -1,8 +1,0 @@
--- `held::core::core_in` meets its contract: the words in the order of the definition.
-use mathlib.Core.Path.{refl}
-use Rattle.held.specs.Core.{core_in}
-use Rattle.held.proofs.core.core_in.Goals as goal
-
-pub returns : goal.returns
-unfolding core_in
-returns c = refl
