@@ -142,7 +142,7 @@ length_put false n p byte paper = refl
 pub length_back : (mask : ℕ) (bytes : List ℕ) (printers : List Printer) (n : ℕ) (paper : List ℕ) →
     length (put_back mask bytes printers n paper) ≡ length paper
 unfolding put_back
-length_back mask bytes printers zero paper = refl
-length_back mask bytes printers (suc n) paper =
-    let next = put_at (bit n mask) n (get_or printers n no_printer) (get_or bytes n 0) paper in
-    length_back mask bytes printers n next ∙ length_put (bit n mask) n (get_or printers n no_printer) (get_or bytes n 0) paper
+length_back m bs printers zero paper = refl
+length_back m bs printers (suc n) paper =
+    let next = put_at (bit n m) n (get_or printers n no_printer) (get_or bs n 0) paper in
+    length_back m bs printers n next ∙ length_put (bit n m) n (get_or printers n no_printer) (get_or bs n 0) paper
