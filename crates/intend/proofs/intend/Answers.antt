@@ -1,6 +1,5 @@
 -- `intend::intend` meets its contract: by cases.
 use Rattle.intend.specs.Intend.{intend_of}
-use Rattle.std.proofs.Common.{rules}
 use Rattle.intend.proofs.intend.Goals as goal
 
 pub returns-in-Reserved : goal.returns-in-Reserved
@@ -25,7 +24,7 @@ returns-in-Shift c = rw (c.in-Shift.is, c.shift.ensures)
 
 pub returns-in-ShiftBy : goal.returns-in-ShiftBy
 unfolding intend_of
-returns-in-ShiftBy c = rw (c.in-ShiftBy.is, c.shift_by_lem.ensures)
+returns-in-ShiftBy c = rw (c.in-ShiftBy.is, c.shift_by.ensures)
 
 pub returns-in-Register : goal.returns-in-Register
 unfolding intend_of

@@ -1,6 +1,5 @@
 -- `intend::access::reached` meets its contract: what comes before the bus, under Status and EntryHi, then the bus.
 use Rattle.intend.proofs.InParts.{reached_in_parts}
-use Rattle.std.proofs.Common.{rules}
 use Rattle.intend.proofs.access.reached.Goals as goal
 
 pub returns : goal.returns

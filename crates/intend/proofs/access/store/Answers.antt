@@ -1,10 +1,10 @@
 -- `intend::access::store` meets its contract: the address, then its answer, which a plain access has without the table (`plain-lands`), and one near the page that is remembered
 -- from that page, where D is on (`near-lands`, `may-store`).
-use Rattle.std.proofs.Common.{◌≡◌, true, eqb, get_or, sym, ◌∙◌, arith, rules, eqb-true}
+use Rattle.std.proofs.Common.{◌≡◌, true, eqb, get_or, sym, ◌∙◌, arith, eqb-true}
 use Rattle.word.proofs.Cond.{both}
 use Rattle.reach.proofs.PlainLands.{is_plain}
 use Rattle.reach.specs.declared.access.Kind.TheVariants as kind
-use Rattle.pages.specs.Pages.{is_near, page_of, Kept}
+use Rattle.pages.specs.Pages.{page_of}
 use Rattle.pages.proofs.Lands.{MayReach, near_kept, kept_inside, may_store}
 use Rattle.intend.proofs.Plain.{plain_lands}
 use Rattle.intend.proofs.NearLands.{near_lands}
@@ -15,62 +15,42 @@ overflow_sub-result c = let p = is_plain _ _ _ _ (sym c.plain.ensures ∙ c.if-p
 
 pub returns-then-plain : goal.returns-then-plain
 returns-then-plain c =
-    let tested = c in
-    let start = tested in
     rw (
-      ← tested.reg.ensures,
-      ← tested.addiu-va.ensures,
-      ← tested.store_width-width.ensures,
+      ← c.reg.ensures,
+      ← c.addiu-va.ensures,
+      ← c.store_width-width.ensures,
       c.reg-then-plain.ensures,
-      plain_lands kind.Store tested.store_width-width.result start.args.cp0 start.args.rows start.args.sizes tested.addiu-va.result (sym tested.plain.ensures ∙ c.if-plain.true),
+      plain_lands kind.Store c.store_width-width.result c.args.cp0 c.args.rows c.args.sizes c.addiu-va.result (sym c.plain.ensures ∙ c.if-plain.true),
     )
 
 -- where the access is near the page that is remembered, and D is on
-module _ (c : tie.Then2) where
-  abbrev sized : tie.After-store-width
-  sized = c
-
-  abbrev summed : tie.After-addiu
-  summed = sized
-
-  abbrev start : tie.Start
-  start = summed
-
-  told : (c.near.result ≡ true) × (eqb (get_or start.args.pages.now 4 0) 1 ≡ true)
-  told = both _ _ c.if-near-pages.true
-
-  is-near : is_near (get_or start.args.pages.now 2 0) sized.store_width-width.result start.args.cp0.status start.args.cp0.entry_hi summed.addiu-va.result ≡ true
-  is-near = sym c.near.ensures ∙ told.0
-
-  is-kept : Kept (get_or start.args.pages.now 2 0) (get_or start.args.pages.now 3 0) start.args.rows start.args.sizes.ram
-  is-kept = near_kept _ _ _ _ _ _ is-near start.requires.1.accesses
-
-  is-dirty : MayReach kind.Store (page_of (get_or start.args.pages.now 2 0) start.args.rows start.args.sizes.ram)
-  is-dirty = may_store _ _ _ _ _ _ _ _ is-near start.requires.1.dirty (eqb-true _ _ told.1)
-
 pub place-requires : goal.place-requires
-place-requires c = let inside = kept_inside (is-kept c) in omega (arith, inside)
+place-requires c =
+    let told : (c.near.result ≡ true) × (eqb (get_or c.args.pages.now 4 0) 1 ≡ true) = both _ _ c.if-near-pages.true in
+    let inside = kept_inside (near_kept _ _ _ _ _ _ (sym c.near.ensures ∙ told.0) c.requires.known.accesses) in
+    omega (arith, inside)
 
 pub returns-then-near-pages : goal.returns-then-near-pages
 returns-then-near-pages c =
-    let n = c in
-    let a = (start n).args in
+    let told : (c.near.result ≡ true) × (eqb (get_or c.args.pages.now 4 0) 1 ≡ true) = both _ _ c.if-near-pages.true in
+    let is_near = sym c.near.ensures ∙ told.0 in
+    let is_kept = near_kept _ _ _ _ _ _ is_near c.requires.known.accesses in
+    let is_dirty : MayReach kind.Store (page_of (get_or c.args.pages.now 2 0) c.args.rows c.args.sizes.ram) = may_store _ _ _ _ _ _ _ _ is_near c.requires.known.dirty (eqb-true _ _ told.1) in
     rw (
-      ← (summed n).reg.ensures,
-      ← (summed n).addiu-va.ensures,
-      ← (sized n).store_width-width.ensures,
+      ← c.reg.ensures,
+      ← c.addiu-va.ensures,
+      ← c.store_width-width.ensures,
       c.reg-then-near-pages.ensures,
       c.place.ensures,
-      near_lands kind.Store (sized n).store_width-width.result a.cp0 a.rows a.sizes _ (get_or a.pages.now 3 0) (summed n).addiu-va.result (is-near n) (is-kept n) (is-dirty n),
+      near_lands kind.Store c.store_width-width.result c.args.cp0 c.args.rows c.args.sizes _ (get_or c.args.pages.now 3 0) c.addiu-va.result is_near is_kept is_dirty,
     )
 
 pub returns : goal.returns
 returns c =
-    let sized = c in
     rw (
       c.reached-answer.ensures,
       c.reg-2.ensures,
-      sized.store_width-width.ensures,
-      sized.addiu-va.ensures,
-      sized.reg.ensures,
+      c.store_width-width.ensures,
+      c.addiu-va.ensures,
+      c.reg.ensures,
     )

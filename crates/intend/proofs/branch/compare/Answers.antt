@@ -1,5 +1,4 @@
 -- `intend::branch::compare` meets its contract: by cases.
-use Rattle.std.proofs.Common.{rules}
 use Rattle.intend.proofs.branch.compare.Goals as goal
 
 pub returns-in-Beq : goal.returns-in-Beq

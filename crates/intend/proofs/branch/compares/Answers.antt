@@ -1,5 +1,4 @@
 -- `intend::branch::compares` meets its contract: what its calls ensure, joined.
-use Rattle.std.proofs.Common.{rules}
 use Rattle.intend.proofs.branch.compares.Goals as goal
 
 pub returns : goal.returns

@@ -1,5 +1,4 @@
 -- `intend::branch::jumps` meets its contract: by cases.
-use Rattle.std.proofs.Common.{rules}
 use Rattle.intend.proofs.branch.jumps.Goals as goal
 
 pub returns-in-J : goal.returns-in-J

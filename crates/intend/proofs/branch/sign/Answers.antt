@@ -1,5 +1,4 @@
 -- `intend::branch::sign` meets its contract: by cases.
-use Rattle.std.proofs.Common.{rules}
 use Rattle.intend.proofs.branch.sign.Goals as goal
 
 pub returns-in-Bltz : goal.returns-in-Bltz

@@ -1,5 +1,4 @@
 -- `intend::branch::taken` meets its contract: by the test.
-use Rattle.std.proofs.Common.{rules}
 use Rattle.intend.proofs.branch.taken.Goals as goal
 
 pub returns-then-test : goal.returns-then-test

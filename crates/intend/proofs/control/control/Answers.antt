@@ -1,6 +1,5 @@
 -- `intend::control::control` meets its contract: by the test, which comes first.
 use Rattle.intend.specs.Control.{control_of}
-use Rattle.std.proofs.Common.{rules}
 use Rattle.intend.proofs.control.control.Goals as goal
 
 pub returns-then-usable : goal.returns-then-usable

@@ -1,5 +1,4 @@
 -- `intend::control::popped` meets its contract: what `popped` of Status gives.
-use Rattle.std.proofs.Common.{rules}
 use Rattle.intend.proofs.control.popped.Goals as goal
 
 pub returns : goal.returns

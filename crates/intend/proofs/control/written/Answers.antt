@@ -1,6 +1,5 @@
 -- `intend::control::written` meets its contract: what is written, read again.
 use Rattle.cp0.proofs.Writes.{written_word}
-use Rattle.std.proofs.Common.{rules}
 use Rattle.intend.proofs.control.written.Goals as goal
 
 pub returns : goal.returns

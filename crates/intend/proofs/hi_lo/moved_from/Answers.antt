@@ -1,5 +1,4 @@
 -- `intend::hi_lo::moved_from` meets its contract: what its calls ensure, joined.
-use Rattle.std.proofs.Common.{rules}
 use Rattle.intend.proofs.hi_lo.moved_from.Goals as goal
 
 pub returns : goal.returns

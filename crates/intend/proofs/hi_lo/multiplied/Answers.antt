@@ -1,5 +1,4 @@
 -- `intend::hi_lo::multiplied` meets its contract: by cases.
-use Rattle.std.proofs.Common.{rules}
 use Rattle.intend.proofs.hi_lo.multiplied.Goals as goal
 
 pub returns-in-Mult : goal.returns-in-Mult

@@ -1,5 +1,4 @@
 -- `intend::hi_lo::product` meets its contract: what its calls ensure, joined.
-use Rattle.std.proofs.Common.{rules}
 use Rattle.intend.proofs.hi_lo.product.Goals as goal
 
 pub returns : goal.returns

@@ -1,5 +1,4 @@
 -- `intend::hi_lo::with_half` meets its contract: by cases.
-use Rattle.std.proofs.Common.{rules}
 use Rattle.intend.proofs.hi_lo.with_half.Goals as goal
 
 pub returns-in-Hi : goal.returns-in-Hi

@@ -1,6 +1,5 @@
 -- `intend::operand::reg` meets its contract: register 0 holds what it reads (`reads`).
 use Rattle.intend.proofs.Registers.{reads}
-use Rattle.std.proofs.Common.{rules}
 use Rattle.intend.proofs.operand.reg.Goals as goal
 
 pub returns : goal.returns

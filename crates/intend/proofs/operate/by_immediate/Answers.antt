@@ -1,5 +1,4 @@
 -- `intend::operate::by_immediate` meets its contract: by cases.
-use Rattle.std.proofs.Common.{rules}
 use Rattle.intend.proofs.operate.by_immediate.Goals as goal
 
 pub returns-in-Addi : goal.returns-in-Addi

@@ -1,5 +1,4 @@
 -- `intend::operate::by_register` meets its contract: by cases.
-use Rattle.std.proofs.Common.{rules}
 use Rattle.intend.proofs.operate.by_register.Goals as goal
 
 pub returns-in-Add : goal.returns-in-Add

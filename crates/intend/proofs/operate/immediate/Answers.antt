@@ -1,5 +1,4 @@
 -- `intend::operate::immediate` meets its contract: what its calls ensure, joined.
-use Rattle.std.proofs.Common.{rules}
 use Rattle.intend.proofs.operate.immediate.Goals as goal
 
 pub returns : goal.returns

@@ -1,5 +1,4 @@
 -- `intend::operate::shift_by` meets its contract: what its calls ensure, joined.
-use Rattle.std.proofs.Common.{rules}
 use Rattle.intend.proofs.operate.shift_by.Goals as goal
 
 pub returns : goal.returns

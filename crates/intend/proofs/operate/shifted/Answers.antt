@@ -1,5 +1,4 @@
 -- `intend::operate::shifted` meets its contract: by cases.
-use Rattle.std.proofs.Common.{rules}
 use Rattle.intend.proofs.operate.shifted.Goals as goal
 
 pub returns-in-Sll : goal.returns-in-Sll

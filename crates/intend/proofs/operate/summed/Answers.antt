@@ -1,5 +1,4 @@
 -- `intend::operate::summed` meets its contract: by cases.
-use Rattle.std.proofs.Common.{rules}
 use Rattle.intend.proofs.operate.summed.Goals as goal
 
 pub returns-in-Sum : goal.returns-in-Sum
