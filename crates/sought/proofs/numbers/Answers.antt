@@ -1,5 +1,4 @@
 -- `sought::numbers` meets its contract.
-use borrow.Author.Rules.{rules}
 use Rattle.sought.proofs.numbers.Goals as goal
 
 pub returns-in-At : goal.returns-in-At
