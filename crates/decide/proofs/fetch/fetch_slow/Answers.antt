@@ -4,40 +4,21 @@ use Rattle.reach.specs.declared.access.Width.TheVariants.{Four}
 use Rattle.intend.proofs.InParts.{reached_in_parts}
 use Rattle.decide.specs.Fetch.{fetch_of}
 use Rattle.decide.proofs.Held.{reached_room}
-use borrow.Author.Rules.{rules}
 use Rattle.decide.proofs.fetch.fetch_slow.Goals as goal
 
 pub word_in-requires : goal.word_in-requires
 word_in-requires c =
-    let landed = c in
-    let before = landed in
-    let sized = before in
-    let start = sized in
-    let a = start.args in
-    let answer =
-    reached_in_parts Fetch Four a.core.cp0-1 a.rows _ a.core.pc before.mode_of.ensures before.physical-to.ensures landed.landed-answer.ensures in
-    reached_room _ start.requires _ _ _ _ _ sized.sizes-lent.ensures answer c.in-Lands.is
+    let answer = reached_in_parts Fetch Four c.args.core.cp0 c.args.rows _ c.args.core.pc c.mode_of.ensures c.physical-to.ensures c.landed-answer.ensures in
+    reached_room _ c.requires _ _ _ _ _ c.sizes-lent.ensures answer c.in-Lands.is
 
 pub returns-in-Lands : goal.returns-in-Lands
 unfolding fetch_of
 returns-in-Lands c =
-    let landed = c in
-    let before = landed in
-    let sized = before in
-    let start = sized in
-    let a = start.args in
-    let answer =
-    reached_in_parts Fetch Four a.core.cp0-1 a.rows _ a.core.pc before.mode_of.ensures before.physical-to.ensures landed.landed-answer.ensures in
-    rw (← sized.sizes-lent.ensures, ← answer, c.in-Lands.is, c.word_in.ensures)
+    let answer = reached_in_parts Fetch Four c.args.core.cp0 c.args.rows _ c.args.core.pc c.mode_of.ensures c.physical-to.ensures c.landed-answer.ensures in
+    rw (← c.sizes-lent.ensures, ← answer, c.in-Lands.is, c.word_in.ensures)
 
 pub returns-in-Exception : goal.returns-in-Exception
 unfolding fetch_of
 returns-in-Exception c =
-    let landed = c in
-    let before = landed in
-    let sized = before in
-    let start = sized in
-    let a = start.args in
-    let answer =
-    reached_in_parts Fetch Four a.core.cp0-1 a.rows _ a.core.pc before.mode_of.ensures before.physical-to.ensures landed.landed-answer.ensures in
-    rw (← sized.sizes-lent.ensures, ← answer, c.in-Exception.is)
+    let answer = reached_in_parts Fetch Four c.args.core.cp0 c.args.rows _ c.args.core.pc c.mode_of.ensures c.physical-to.ensures c.landed-answer.ensures in
+    rw (← c.sizes-lent.ensures, ← answer, c.in-Exception.is)

@@ -1,5 +1,4 @@
 -- `decide::lent::word_in` meets its contract: by cases; each area has room for the word.
-use borrow.Author.Rules.{rules}
 use Rattle.decide.proofs.lent.word_in.Goals as goal
 
 pub word_around-requires : goal.word_around-requires

@@ -3,7 +3,6 @@ use Prim.Native.Nat.{◌/◌, ◌%◌}
 use mathlib.Core.Path.{ap}
 use Rattle.decide.proofs.Bytes.{octets}
 use Rattle.decide.specs.Part.{from_place}
-use borrow.Author.Rules.{rules}
 use Rattle.decide.proofs.part.from_place.Goals as goal
 
 pub returns : goal.returns

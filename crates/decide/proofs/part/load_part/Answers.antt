@@ -1,5 +1,4 @@
 -- `decide::part::load_part` meets its contract: by cases.
-use borrow.Author.Rules.{rules}
 use Rattle.decide.proofs.part.load_part.Goals as goal
 
 pub returns-in-Lb : goal.returns-in-Lb

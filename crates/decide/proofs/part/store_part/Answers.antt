@@ -1,5 +1,4 @@
 -- `decide::part::store_part` meets its contract: by cases.
-use borrow.Author.Rules.{rules}
 use Rattle.decide.proofs.part.store_part.Goals as goal
 
 pub returns-in-Sb : goal.returns-in-Sb

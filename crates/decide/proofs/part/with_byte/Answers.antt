@@ -6,7 +6,6 @@ use Rattle.word.specs.Little.{to_bytes}
 use Rattle.memory.specs.Memory.{stored_at}
 use Rattle.decide.proofs.Bytes.{three}
 use Rattle.decide.specs.Part.{with_bytes}
-use borrow.Author.Rules.{rules}
 use Rattle.decide.proofs.part.with_byte.Goals as goal
 
 pub returns-in-0 : goal.returns-in-0

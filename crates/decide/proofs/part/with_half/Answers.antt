@@ -6,7 +6,6 @@ use Rattle.word.specs.Little.{to_bytes}
 use Rattle.memory.specs.Memory.{stored_at}
 use Rattle.decide.proofs.Bytes.{three}
 use Rattle.decide.specs.Part.{with_bytes}
-use borrow.Author.Rules.{rules}
 use Rattle.decide.proofs.part.with_half.Goals as goal
 
 pub returns-then-at-lt2 : goal.returns-then-at-lt2

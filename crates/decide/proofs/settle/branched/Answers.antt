@@ -1,5 +1,4 @@
 -- `decide::settle::branched` meets its contract: what `written` gives of the link.
-use borrow.Author.Rules.{rules}
 use Rattle.decide.proofs.settle.branched.Goals as goal
 
 pub returns : goal.returns

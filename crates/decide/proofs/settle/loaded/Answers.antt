@@ -1,9 +1,8 @@
 -- `decide::settle::loaded` meets its contract: by cases; where the access lands there is room.
-use borrow.Author.Rules.{rules}
 use Rattle.decide.proofs.settle.loaded.Goals as goal
 
 pub word_in-word-requires : goal.word_in-word-requires
-word_in-word-requires c = rw c.in-Lands.is at c.requires.0
+word_in-word-requires c = rw c.in-Lands.is at c.requires.held
 
 pub returns-in-Lands : goal.returns-in-Lands
 returns-in-Lands c =

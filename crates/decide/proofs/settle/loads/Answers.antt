@@ -1,5 +1,4 @@
 -- `decide::settle::loads` meets its contract: by cases.
-use borrow.Author.Rules.{rules}
 use Rattle.decide.proofs.settle.loads.Goals as goal
 
 pub returns-in-Ram : goal.returns-in-Ram

@@ -1,5 +1,4 @@
 -- `decide::settle::on` meets its contract: what `after` gives.
-use borrow.Author.Rules.{rules}
 use Rattle.decide.proofs.settle.on.Goals as goal
 
 pub returns : goal.returns

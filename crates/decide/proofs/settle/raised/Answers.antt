@@ -1,5 +1,4 @@
 -- `decide::settle::raised` meets its contract: what `vector` and `after` give.
-use borrow.Author.Rules.{rules}
 use Rattle.decide.proofs.settle.raised.Goals as goal
 
 pub returns : goal.returns

@@ -1,5 +1,4 @@
 -- `decide::settle::read` meets its contract: what its calls ensure, joined.
-use borrow.Author.Rules.{rules}
 use Rattle.decide.proofs.settle.read.Goals as goal
 
 pub returns : goal.returns

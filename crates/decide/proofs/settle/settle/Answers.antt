@@ -1,15 +1,12 @@
 -- `decide::settle::settle` meets its contract: by cases.
 use Rattle.decide.specs.Settle.{settle_of}
-use borrow.Author.Rules.{rules}
 use Rattle.decide.proofs.settle.settle.Goals as goal
 
 pub loaded-requires : goal.loaded-requires
-loaded-requires c =
-    let start = c in
-    ((rw c.in-Load.is at start.requires.0).1, start.requires.1)
+loaded-requires c = record { held = (rw c.in-Load.is at c.requires.asks).1; holds_zero = c.requires.holds_zero }
 
 pub stored-requires : goal.stored-requires
-stored-requires c = rw c.in-Store.is at c.requires.0
+stored-requires c = rw c.in-Store.is at c.requires.asks
 
 pub returns-in-Write : goal.returns-in-Write
 unfolding settle_of

@@ -1,5 +1,4 @@
 -- `decide::settle::stored` meets its contract: by cases; where the access lands there is room.
-use borrow.Author.Rules.{rules}
 use Rattle.decide.proofs.settle.stored.Goals as goal
 
 pub word_in-word-requires : goal.word_in-word-requires

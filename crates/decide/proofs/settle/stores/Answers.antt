@@ -1,5 +1,4 @@
 -- `decide::settle::stores` meets its contract: by cases.
-use borrow.Author.Rules.{rules}
 use Rattle.decide.proofs.settle.stores.Goals as goal
 
 pub returns-in-Ram : goal.returns-in-Ram

@@ -1,5 +1,4 @@
 -- `decide::settle::written` meets its contract: what `to_register` gives.
-use borrow.Author.Rules.{rules}
 use Rattle.decide.proofs.settle.written.Goals as goal
 
 pub returns : goal.returns

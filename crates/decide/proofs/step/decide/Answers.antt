@@ -2,7 +2,6 @@
 use mathlib.Core.Path.{sym, ◌∙◌}
 use Rattle.decide.specs.Decide.{decide_of}
 use Rattle.decide.proofs.Fetches.{decide_done}
-use borrow.Author.Rules.{rules}
 use Rattle.decide.proofs.step.decide.Goals as goal
 
 pub returns-then-interrupts : goal.returns-then-interrupts

@@ -9,15 +9,14 @@ use borrow.Author.Rules.{rules}
 use Rattle.decide.proofs.step.execute.Goals as goal
 
 pub intend-intent-requires : goal.intend-intent-requires
-intend-intent-requires c = let start = c in (start.requires.1.0, rw c.sizes.ensures start.requires.1.1)
+intend-intent-requires c = record { holds_zero = c.requires.holds_zero; known = rw c.sizes.ensures c.requires.known }
 
 pub settle-requires : goal.settle-requires
 settle-requires c =
-    let start = c in
-    let sixteen : length start.args.rows ≡ 16 = search rules in
-    let rows : 0 < length start.args.rows = omega (arith, sixteen) in
-    let asks = intent_asks _ _ start.requires.0 rows _ _ start.args.word c.decode.ensures c.sizes.ensures c.intend-intent.ensures in
-    (rw sixteen at asks, start.requires.1.0)
+    let sixteen : length c.args.rows ≡ 16 = search rules in
+    let rows : 0 < length c.args.rows = omega (arith, sixteen) in
+    let asks = intent_asks _ _ c.requires.whole rows _ _ c.args.word c.decode.ensures c.sizes.ensures c.intend-intent.ensures in
+    record { asks = rw sixteen at asks; holds_zero = c.requires.holds_zero }
 
 pub returns : goal.returns
 unfolding execute_of
