@@ -1,5 +1,4 @@
 -- `meets::by_instr` meets its contract: by cases.
-use borrow.Author.Rules.{rules}
 use Rattle.meets.proofs.by_instr.Goals as goal
 
 pub returns-in-Load : goal.returns-in-Load

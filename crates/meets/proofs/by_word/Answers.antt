@@ -3,7 +3,6 @@ use mathlib.Core.Path.{sym, ap, ◌∙◌}
 use native.Mathlib.Omega.{arith}
 use Rattle.meets.specs.Meets.{access_meets_two}
 use Rattle.meets.proofs.Quiet.{low_quiet}
-use borrow.Author.Rules.{rules}
 use Rattle.meets.proofs.by_word.Goals as goal
 
 pub returns-then-word-lt2147483648 : goal.returns-then-word-lt2147483648

@@ -1,7 +1,5 @@
 -- `meets::meets_two` meets its contract: the interrupt test, the fetch, then what the fetch gave.
-use mathlib.Core.Path.{ap, ◌∙◌}
-use Rattle.meets.specs.Meets.{fetched_meets_two, meets_two_of}
-use borrow.Author.Rules.{rules}
+use Rattle.meets.specs.Meets.{meets_two_of}
 use Rattle.meets.proofs.meets_two.Goals as goal
 
 pub returns-then-interrupts : goal.returns-then-interrupts

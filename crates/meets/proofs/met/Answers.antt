@@ -3,7 +3,6 @@ use mathlib.Core.Path.{ap, ◌∙◌}
 use Rattle.cp0.specs.declared.privilege.Mode.{Mode}
 use Rattle.reach.specs.Reach.{meets_two}
 use Rattle.intend.specs.Access.{twice_of}
-use borrow.Author.Rules.{rules}
 use Rattle.meets.proofs.met.Goals as goal
 
 pub returns : goal.returns
