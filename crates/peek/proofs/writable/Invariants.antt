@@ -1,5 +1,5 @@
 -- Safe and ending: as many bytes as asked for.
-use Rattle.std.proofs.Common.{◌-◌, ◌≤◌, rules}
+use Rattle.std.proofs.Common.{◌-◌, ◌≤◌}
 use Rattle.peek.proofs.writable.Given as goal
 
 abbrev pub invariant-loop-k : goal.invariant-loop-k

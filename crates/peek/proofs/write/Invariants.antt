@@ -1,5 +1,5 @@
 -- Safe and ending: each byte once, in a RAM that keeps its length.
-use Rattle.std.proofs.Common.{◌≡◌, ◌-◌, ◌≤◌, length, rules}
+use Rattle.std.proofs.Common.{◌≡◌, ◌-◌, ◌≤◌, length}
 use Rattle.peek.proofs.write.Given as goal
 
 abbrev pub invariant-loop-i : goal.invariant-loop-i

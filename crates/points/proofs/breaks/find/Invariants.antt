@@ -1,5 +1,5 @@
 -- Safe and ending: each breakpoint once.
-use Rattle.std.proofs.Common.{◌-◌, ◌≤◌, rules}
+use Rattle.std.proofs.Common.{◌-◌, ◌≤◌}
 use Rattle.points.proofs.breaks.find.Given as goal
 
 abbrev pub invariant-loop-i : goal.invariant-loop-i

@@ -1,5 +1,5 @@
 -- Safe and ending: each watch once.
-use Rattle.std.proofs.Common.{◌-◌, ◌≤◌, rules}
+use Rattle.std.proofs.Common.{◌-◌, ◌≤◌}
 use Rattle.points.proofs.watches.place_each.Given as goal
 
 abbrev pub invariant-loop-i : goal.invariant-loop-i

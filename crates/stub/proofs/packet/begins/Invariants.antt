@@ -1,5 +1,5 @@
 -- Safe and ending: up to the end of the word.
-use Rattle.std.proofs.Common.{◌-◌, ◌≤◌, length, rules}
+use Rattle.std.proofs.Common.{◌-◌, ◌≤◌, length}
 use Rattle.stub.proofs.packet.begins.Given as goal
 
 abbrev pub invariant-loop-i : goal.invariant-loop-i
