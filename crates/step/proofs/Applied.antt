@@ -1,6 +1,6 @@
 -- The effect, the PC pair and the slot by parts: what the functions of apply.rt leave is the decision applied.
 use Rattle.std.specs.Prelude.{◌≡◌, ℕ, List, []}
-use mathlib.Core.Path.{refl, ap, ◌∙◌}
+use mathlib.Core.Path.{refl, ap}
 use Rattle.board.specs.declared.places.Sizes.{Sizes}
 use Rattle.tlb.specs.declared.Row.{Row}
 use Rattle.state.specs.Slot.{slot_after}
@@ -12,7 +12,7 @@ use Rattle.decide.specs.declared.effect.Effect.TheVariants.{Nothing, Register, H
 use Rattle.step.specs.World.{World, world_of}
 use Rattle.step.specs.Apply.{bus_of, with_pc, paired, effect_of, applied_of}
 use Rattle.step.specs.Parts.{regs_after, ram_after, core_after, rows_after, board_after}
-use Rattle.step.proofs.Effects.{together, by_parts}
+use Rattle.step.proofs.Effects.{by_parts}
 
 module _ (sizes : Sizes) (d : Decision) (core : Core) (board : Board) (regs : List ℕ) (t : List Row) (ram paper : List ℕ) where
   abbrev from : World

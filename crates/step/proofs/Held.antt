@@ -8,7 +8,6 @@ use Rattle.word.specs.Map.{bit}
 use Rattle.printer.specs.Tick.{printing, is_busy}
 use Rattle.printer.specs.declared.Line.{Line}
 use Rattle.printer.proofs.Ticks.{idle_tick}
-use Rattle.bus.specs.declared.store.Store.{Store}
 use Rattle.bus.specs.declared.store.Store.TheVariants.{Nothing, Timer, Command, Data}
 use Rattle.board.specs.declared.places.Sizes.{Sizes}
 use Rattle.state.specs.Layout.{kept_words}
@@ -24,9 +23,8 @@ use Rattle.held.specs.declared.Held.{Held}
 use Rattle.held.proofs.CoreWords.{core_held}
 use Rattle.held.proofs.LineHeld.{not_commanded}
 use Rattle.held.proofs.Soon.{quiet, any_waits, waits_on}
-use Rattle.step.specs.World.{world_of}
 use Rattle.step.specs.Apply.{bus_of, with_pc}
-use Rattle.step.specs.Parts.{core_ticked, regs_after, ram_after, core_after, rows_after}
+use Rattle.step.specs.Parts.{core_ticked, regs_after, ram_after, core_after}
 use Rattle.step.specs.Held.{PrintedIs, TickIs, StoredIs, HeldIs, ApplyIs}
 use Rattle.step.specs.declared.tick.AfterPrinters.{AfterPrinters}
 use Rattle.step.proofs.Ticks.{tick_is}

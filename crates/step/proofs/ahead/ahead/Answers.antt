@@ -1,5 +1,4 @@
 -- `step::ahead::ahead` meets its contract.
-use borrow.Author.Rules.{rules}
 use Rattle.step.proofs.ahead.ahead.Goals as goal
 
 pub returns : goal.returns

@@ -1,7 +1,6 @@
 -- `step::apply::device_word` meets its contract.
 use mathlib.Core.Path.{◌∙◌}
 use Rattle.step.proofs.Devices.{named_word}
-use borrow.Author.Rules.{rules}
 use Rattle.step.proofs.apply.device_word.Goals as goal
 
 pub returns : goal.returns

@@ -1,6 +1,5 @@
 -- `step::apply::held_after` meets its contract: a store in the device area by its own function, and in every other arm nothing moves.
 use mathlib.Core.Path.{refl}
-use borrow.Author.Rules.{rules}
 use Rattle.step.proofs.apply.held_after.Goals as goal
 
 pub store_device-requires : goal.store_device-requires

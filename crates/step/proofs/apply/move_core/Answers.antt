@@ -1,7 +1,6 @@
 -- `step::apply::move_core` meets its contract.
 use mathlib.Core.Path.{◌∙◌}
 use Rattle.step.proofs.Held.{put_back}
-use borrow.Author.Rules.{rules}
 use Rattle.step.proofs.apply.move_core.Goals as goal
 
 pub returns-in-Nothing : goal.returns-in-Nothing

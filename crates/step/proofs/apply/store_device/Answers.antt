@@ -1,10 +1,9 @@
 -- `step::apply::store_device` meets its contract.
 use Rattle.bus.proofs.Stores.{in_line}
-use borrow.Author.Rules.{rules}
 use Rattle.step.proofs.apply.store_device.Goals as goal
 
 pub stored-requires : goal.stored-requires
-stored-requires c = (rw c.write.ensures (in_line c.args.offset c.args.word), c.requires)
+stored-requires c = record { in_line = rw c.write.ensures (in_line c.args.offset c.args.word); told = c.requires }
 
 pub returns : goal.returns
 returns c =

@@ -1,6 +1,5 @@
 -- `step::apply::write_back` meets its contract.
 use mathlib.Core.Path.{refl}
-use borrow.Author.Rules.{rules}
 use Rattle.step.proofs.apply.write_back.Goals as goal
 
 pub bounds-regs-at : goal.bounds-regs-at

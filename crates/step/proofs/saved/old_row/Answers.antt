@@ -1,5 +1,4 @@
 -- `step::saved::old_row` meets its contract, by cases.
-use borrow.Author.Rules.{rules}
 use Rattle.step.proofs.saved.old_row.Goals as goal
 
 pub returns-in-TlbRow : goal.returns-in-TlbRow

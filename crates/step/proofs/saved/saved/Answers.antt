@@ -1,5 +1,4 @@
 -- `step::saved::saved` meets its contract.
-use borrow.Author.Rules.{rules}
 use Rattle.step.proofs.saved.saved.Goals as goal
 
 pub register_at-requires : goal.register_at-requires

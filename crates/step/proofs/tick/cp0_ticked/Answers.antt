@@ -1,6 +1,5 @@
 -- `step::tick::cp0_ticked` meets its contract.
 use Rattle.cp0.specs.Registers.{with_register}
-use borrow.Author.Rules.{rules}
 use Rattle.step.proofs.tick.cp0_ticked.Goals as goal
 
 pub returns : goal.returns

@@ -1,5 +1,4 @@
 -- `step::tick::rang_line` meets its contract.
-use borrow.Author.Rules.{rules}
 use Rattle.step.proofs.tick.rang_line.Goals as goal
 
 pub returns-then-rang : goal.returns-then-rang
