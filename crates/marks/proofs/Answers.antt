@@ -1,11 +1,10 @@
 -- What the code's answers come to, over plain values.
-use Rattle.std.proofs.Common.{◌≡◌, ℕ, zero, suc, ◌+◌, ◌-◌, ◌/◌, ◌%◌, ◌^◌, ◌<◌, ◌≤◌, Bool, cond, not, eqb, ltb, List, length, sym, refl, ap, ◌∙◌, mod-eq_of_lt, arith, le-ltb, lt-ltb}
+use Rattle.std.proofs.Common.{◌≡◌, ℕ, zero, suc, ◌+◌, ◌-◌, ◌/◌, ◌^◌, ◌<◌, ◌≤◌, Bool, cond, not, eqb, List, length, sym, refl, ap, ◌∙◌, mod-eq_of_lt, arith, le-ltb, lt-ltb}
 use Rattle.memory.specs.Memory.{load_at, stored_at}
 use Rattle.memory.proofs.Laws.{load_stored}
 use Rattle.ring.specs.Slots.{Ring, slot, slot_back}
 use Rattle.record.specs.Layout.{record_of}
 use Rattle.record.specs.declared.Saved.{Saved}
-use Rattle.decide.specs.declared.effect.Effect.{Effect}
 use Rattle.decide.specs.declared.effect.Effect.TheVariants.{Ram}
 use Rattle.frames.specs.declared.Entry.TheVariants.{Nothing}
 use Rattle.frames.specs.Bytes.{whole, replace_all_in, mark_in, Stepped, note_in}

@@ -1,5 +1,5 @@
 -- The clock, as the index counts it.
-use Rattle.std.proofs.Common.{◌≡◌, ℕ, ◌+◌, ◌^◌, ◌<◌, ◌∙◌, arith}
+use Rattle.std.proofs.Common.{◌≡◌, ◌+◌, ◌^◌, ◌<◌, ◌∙◌, arith}
 use Rattle.ring.specs.Slots.{next_slot}
 use Rattle.ring.proofs.Slots.{by_leb, next_on, next_round}
 use Rattle.clock.specs.Tick.{time_of, up, ticked_of}

@@ -1,6 +1,5 @@
 -- `marks::onward::below` meets its contract.
 use Rattle.marks.proofs.Answers.{below_room, below_full}
-use Rattle.std.proofs.Common.{rules}
 use Rattle.marks.proofs.onward.below.Goals as goal
 
 pub returns-then-hand-slots : goal.returns-then-hand-slots

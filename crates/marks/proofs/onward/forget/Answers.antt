@@ -1,5 +1,5 @@
 -- `marks::onward::forget` meets its contract: a slot is free, or the next one holds the oldest record.
-use Rattle.std.proofs.Common.{ℕ, List, ap, ◌∙◌, arith, rules}
+use Rattle.std.proofs.Common.{ℕ, List, ap, ◌∙◌, arith}
 use Rattle.clock.specs.Tick.{time_of}
 use Rattle.ring.specs.Slots.{slot_back}
 use Rattle.ring.proofs.Slots.{slot_part}
@@ -17,18 +17,13 @@ returns-then-mark-slots c =
 
 pub returns : goal.returns
 returns c =
-    let forgot = c in
-    let read = forgot in
-    let wrapped = read in
-    let timed = wrapped in
-    let full = timed in
-    let start = full in
-    let a = start.args in
+    let a = c.args in
     let journal = a.journal.now in
     let slots = slots_of journal in
-    let gone = wraps_back wrapped.wrapping_sub_u64-gone.result timed.time.result slots (omega arith) (omega arith) wrapped.wrapping_sub_u64-gone.ensures in
-    forgets_full (ring_of a.mark journal) (time_of a.clock) a.index.now slots wrapped.wrapping_sub_u64-gone.result read.saved.result _
-    full.if-mark-slots.false start.requires.1.1
-    (gone ∙ ap (λ (t : ℕ). slot_back whole t slots) timed.time.ensures)
-    (read.saved.ensures ∙ ap (λ (l : List ℕ). (record_of l).saved) (slot_part 512 journal a.mark.next_slot))
-    forgot.forget_saved.ensures
+    let wrapped = c.wrapping_sub_u64-gone in
+    let gone = wraps_back wrapped.result c.time.result slots (omega arith) (omega arith) wrapped.ensures.value in
+    forgets_full (ring_of a.mark journal) (time_of a.clock) a.index.now slots wrapped.result c.saved.result _
+    c.if-mark-slots.false c.requires.journal_nonzero
+    (gone ∙ ap (λ (t : ℕ). slot_back whole t slots) c.time.ensures)
+    (c.saved.ensures ∙ ap (λ (l : List ℕ). (record_of l).saved) (slot_part 512 journal a.mark.next_slot))
+    c.forget_saved.ensures
