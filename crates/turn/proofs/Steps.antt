@@ -2,7 +2,7 @@
 use Prim.Native.Nat.{ℕ, zero, suc, ◌/◌, ◌^◌, ◌≤◌, ◌<◌}
 use mathlib.Core.Path.{◌≡◌, refl, sym, ap, ◌∙◌}
 use mathlib.Core.Bool.{true}
-use mathlib.Core.List.{List, [], map}
+use mathlib.Core.List.{List, []}
 use native.Mathlib.Omega.{arith}
 use borrow.Author.Tests.{eq-eqb}
 use lib.Dec.{eqb}
@@ -24,10 +24,10 @@ use Rattle.decide.specs.declared.effect.Decision.{Decision}
 use Rattle.decide.specs.declared.effect.Effect.{Effect}
 use Rattle.clock.specs.Tick.{time_of}
 use Rattle.clock.specs.declared.Clock.{Clock}
-use Rattle.frames.specs.Bytes.{whole, mark_all_in}
+use Rattle.frames.specs.Bytes.{whole}
 use Rattle.indexed.specs.Ahead.{dropped_of, tag_of, onward_of}
-use Rattle.marks.specs.Index.{places_of, distance_in, ahead}
-use Rattle.marks.specs.Steps.{forgotten_of, below_in, kept_of, touch_in, marked_of}
+use Rattle.marks.specs.Index.{distance_in, ahead}
+use Rattle.marks.specs.Steps.{forgotten_of, below_in, kept_of, marked_of}
 use Rattle.marks.proofs.Clock.{tick_next}
 use Rattle.step.specs.World.{World, Roms, world_of, roms_of, lent_in}
 use Rattle.step.specs.Tick.{tick_of}
