@@ -70,6 +70,8 @@ class Turn:
 
     def __init__(self, made):
         self.made, self.notes = made, []
+        # whether the ways back from place to place stay as they are
+        self.keeps = False
         self.needs, self.asked = {}, {}
         for (old, new), (place, _) in zip(made["needs"], made["asked_at"]):
             self.needs.setdefault(alike(old), new)
@@ -146,8 +148,31 @@ class Turn:
 
         return re.sub(r"(?:" + WORD + r"|(?<=\)))(?:\." + WORD + r")+", chain, text)
 
+    def kept(self, text, is_answer):
+        """Of a file whose helpers take the record of a place: a way back to a place stays, and in an answer begins one step further up."""
+        way = r"((?:\.before)+)"
+        if is_answer:
+            text = re.sub(r"(?<![\w.'-])c" + way + r"?(?![\w.'-]|\.[^b ]|\.b(?!efore))", lambda m: "c.before" + (m[1] or ""), text)
+            text = re.sub(r"(?<![\w.'-])c" + way + r"\.(?!before)", "c.", text)
+        return text
+
+    def types(self, text, module):
+        """The record types of places, as this toolchain names them."""
+
+        def place(m):
+            old = m[1]
+            found = self.place.get(old) if old in self.place else next((k for n, k in self.place.items() if alike(n) == alike(old)), None)
+            if found is None:
+                self.notes.append(f"no place {old}")
+                return m[0]
+            rest = " goal.the-invariant-" + self.made["loops"][0][0][1] + " goal.the-decreases-" + self.made["loops"][0][0][1] if m[2].strip() else ""
+            return f"lts.{self.made['places_by_name'][found]} tie.the-claims reads.Pre reads.Post{rest}"
+
+        return re.sub(r"tie\.((?:After|At|In|Then|Else|Start)[\w-]*)((?: (?:invariant|decreases)-[\w-]+)*)", place, text)
+
     def body(self, text, place=None):
-        text = re.sub(r"\.before(?![\w-])", "", text)
+        if not self.keeps:
+            text = re.sub(r"\.before(?![\w-])", "", text)
         text = re.sub(r"\.inv(?![\w-])", ".invariant", text)
         text = re.sub(r"\.pre(?![\w-])", ".requires", text)
         # the names bound to a step's values, whose fields are not steps
@@ -217,6 +242,7 @@ def turn_file(crate, folder, names, keep_all):
         return 1
     made = names[key]
     turn = Turn(made)
+    turn.keeps = bool(re.search(r"tie\.(After|At|In|Then|Else|Start)", text))
     module = f"Rattle.{crate}.proofs.{folder.replace('/', '.')}"
     uses, answers, loops, left, first = [], [], [], [], ""
     for block in blocks(text):
@@ -256,15 +282,16 @@ def turn_file(crate, folder, names, keep_all):
                 continue
             if any(a[0] == new for a in answers):
                 turn.notes.append(f"{new} would be answered twice")
-            answers.append((new, comment + "\n" * bool(comment) + f"pub {new} : goal.{new}\n{m[3]}{new} {' '.join(params)} ={turn.body(body, turn.asked[new])}"))
+            answers.append((new, comment + "\n" * bool(comment) + f"pub {new} : goal.{new}\n{m[3]}{new} {' '.join(params)} ={turn.body(turn.kept(body, True) if turn.keeps else body, turn.asked[new])}"))
             continue
-        answers.append((None, turn.body(block)))
+        answers.append((None, turn.types(turn.body(block), module) if turn.keeps else turn.body(block)))
     head = (first + "\n") if first else ""
     where = os.path.dirname(path)
     for word, items, stem in (("Invariants", loops, "Given"), ("Answers", [a[1] for a in answers], "Goals")):
         if items:
+            more = [f"use {module}.{it} as {it.lower()}" for it in ("Lts", "Tie", "Reads")] if turn.keeps and stem == "Goals" else []
             with open(os.path.join(where, word + ".antt"), "w", encoding="utf-8") as f:
-                f.write(head + "\n".join(uses + [f"use {module}.{stem} as goal"]) + "\n\n" + "\n\n".join(items) + "\n")
+                f.write(head + "\n".join(uses + [f"use {module}.{stem} as goal"] + more) + "\n\n" + "\n\n".join(items) + "\n")
     for note in turn.notes:
         print(f"look: {path}: {note}")
     if left:

@@ -1,6 +1,6 @@
--- `run::spin` meets its contract: at the loop's head the run from the start is the run from here, `steps` later. What a turn's calls ensure is one step (`turned-is`).
+-- `run::spin` meets its contract: at the loop's head the run from the start is the run from here, `steps` later. What a turn's calls ensure is one step (`turned_is`).
 -- The arms differ in what they know of the effect; `again` and `ends` take each of them from the turn's statement.
-use Rattle.std.specs.Prelude.{◌≡◌, ℕ, ◌+◌, ◌-◌, ◌<◌, ◌≤◌, Bool, true, false, ◌&&◌, List, length}
+use Rattle.core.specs.Prelude.{◌≡◌, ℕ, ◌+◌, ◌-◌, ◌<◌, ◌≤◌, Bool, true, false, ◌&&◌, List, length}
 use mathlib.Core.Path.{◌∙◌, refl, sym, ap}
 use mathlib.Core.Bool.{and-false}
 use native.Mathlib.Omega.{arith}
@@ -37,48 +37,51 @@ use Rattle.run.proofs.Turns as turns
 use Rattle.run.proofs.Looks.{NextLook, Goes, next_look, halts_ahead, look_ends, look_goes}
 use borrow.Author.Rules.{rules}
 use Rattle.run.proofs.spin.Goals as goal
+use Rattle.run.proofs.spin.Lts as lts
+use Rattle.run.proofs.spin.Tie as tie
+use Rattle.run.proofs.spin.Reads as reads
 
 abbrev Head : Type 0
-Head = tie.At-loop invariant-loop decreases-loop
+Head = lts.At-loop-settings tie.the-claims reads.Pre reads.Post goal.the-invariant-loop-settings goal.the-decreases-loop-settings
 
 abbrev After : Type 0
-After = tie.After-mark2 invariant-loop decreases-loop
+After = lts.After-mark-in-loop-settings-1 tie.the-claims reads.Pre reads.Post goal.the-invariant-loop-settings goal.the-decreases-loop-settings
 
-abbrev finished : After → tie.After-finish invariant-loop decreases-loop
-finished c = c
+abbrev finished : After → lts.After-finish-turned tie.the-claims reads.Pre reads.Post goal.the-invariant-loop-settings goal.the-decreases-loop-settings
+finished c = c.before.before.before.before.before.before.before.before
 
-abbrev asked : After → tie.After-old-row invariant-loop decreases-loop
-asked c = (finished c)
+abbrev asked : After → lts.After-old_row-old tie.the-claims reads.Pre reads.Post goal.the-invariant-loop-settings goal.the-decreases-loop-settings
+asked c = (finished c).before.before.before.before.before.before.before
 
-abbrev decided : After → tie.After-decide invariant-loop decreases-loop
-decided c = (asked c)
+abbrev decided : After → lts.After-decide-d tie.the-claims reads.Pre reads.Post goal.the-invariant-loop-settings goal.the-decreases-loop-settings
+decided c = (asked c).before
 
-abbrev followed : After → tie.After-follow invariant-loop decreases-loop
-followed c = (decided c)
+abbrev followed : After → lts.After-follow tie.the-claims reads.Pre reads.Post goal.the-invariant-loop-settings goal.the-decreases-loop-settings
+followed c = (decided c).before.before.before.before
 
-abbrev read : After → tie.After-core-in invariant-loop decreases-loop
-read c = (followed c)
+abbrev read : After → lts.After-core_in-now tie.the-claims reads.Pre reads.Post goal.the-invariant-loop-settings goal.the-decreases-loop-settings
+read c = (followed c).before.before.before.before.before
 
-abbrev started : After → tie.After-start invariant-loop decreases-loop
-started c = (read c)
+abbrev started : After → lts.After-start-after tie.the-claims reads.Pre reads.Post goal.the-invariant-loop-settings goal.the-decreases-loop-settings
+started c = (read c).before.before.before.before.before.before
 
 abbrev Looked : Type 0
-Looked = tie.After-looked invariant-loop decreases-loop
+Looked = lts.After-looked-look tie.the-claims reads.Pre reads.Post goal.the-invariant-loop-settings goal.the-decreases-loop-settings
 
-abbrev single : After → tie.Else1 invariant-loop decreases-loop
-single c = (started c)
+abbrev single : After → lts.Else-look tie.the-claims reads.Pre reads.Post goal.the-invariant-loop-settings goal.the-decreases-loop-settings
+single c = (started c).before.before.before.before.before
 
 abbrev looked : After → Looked
-looked c = (single c)
+looked c = (single c).before
 
 abbrev head_of : Looked → Head
-head_of l = l
+head_of l = l.before.before.before.before.before
 
 abbrev head : After → Head
 head c = head_of (looked c)
 
-abbrev entry : Head → tie.Start invariant-loop decreases-loop
-entry h = h
+abbrev entry : Head → lts.Start tie.the-claims reads.Pre reads.Post goal.the-invariant-loop-settings goal.the-decreases-loop-settings
+entry h = h.before.before.before.before.before.before.before.before.before.before.before.before.before.before
 
 -- the parts and buffers of a turn's start
 abbrev parts_at : Head → Parts
@@ -87,11 +90,11 @@ parts_at h = let l = h.loop-settings in record { core = l.core; held = l.held; r
 abbrev beside_at : Head → Beside
 beside_at h = let a = (entry h).args in beside_of a.execution.now a.bootstrap.now h.loop-settings.ram h.loop-settings.paper h.loop-settings.journal h.loop-settings.index
 
-whole-at : (h : Head) → Whole (lent_from (beside_at h))
-whole-at h = turns.still_whole h.loop-settings.invariant.1 (entry h).requires.whole
+whole_at : (h : Head) → Whole (lent_from (beside_at h))
+whole_at h = turns.still_whole h.loop-settings.invariant.1 (entry h).requires.whole
 
-within-at : (d : tie.After-decide invariant-loop decreases-loop) → Within (length (head_of d).loop-settings.ram) 16 d.decide-d.result.effect
-within-at d = let h = head_of d in decided_fits (whole-at h) _ _ h.loop-settings.rows h.loop-settings.invariant.6 d.decide-d.ensures
+within_at : (d : lts.After-decide-d tie.the-claims reads.Pre reads.Post goal.the-invariant-loop-settings goal.the-decreases-loop-settings) → Within (length (head_of d.before.before.before.before.before.before.before.before.before.before.before.before.before.before.before.before.before.before.before.before.before).loop-settings.ram) 16 d.decide-d.result.effect
+within_at d = let h = head_of d.before.before.before.before.before.before.before.before.before.before.before.before.before.before.before.before.before.before.before.before.before in decided_fits (whole_at h) _ _ h.loop-settings.rows h.loop-settings.invariant.6 d.decide-d.ensures
 
 -- what the look asked, and what it says of a step that is taken
 abbrev asks : Head → Bool
@@ -103,11 +106,11 @@ goes_at c =
     look_goes h.loop-settings.rows h.loop-settings.steps h.loop-settings.limit (entry h).args.budget (asks h) (looked c).looked-look.result (looked c).looked-look.ensures h.loop-settings.invariant.0
     (meets_one _ h.loop-settings.regs h.loop-settings.rows (lent_from (beside_at h))) (single c).if-look.false
 
-once-at : (c : After) → let h = head c in halts_of (roms_in (beside_at h)) (world_held (parts_at h) (entry h).args.settings (beside_at h)) ≡ false
-once-at c = let h = head c in sym (halts_ahead (parts_at h) (entry h).args.settings (beside_at h)) ∙ (goes_at c).once
+once_at : (c : After) → let h = head c in halts_of (roms_in (beside_at h)) (world_held (parts_at h) (entry h).args.settings (beside_at h)) ≡ false
+once_at c = let h = head c in sym (halts_ahead (parts_at h) (entry h).args.settings (beside_at h)) ∙ (goes_at c).once
 
-left-of : (c : After) → (head c).loop-settings.steps < (entry (head c)).args.budget
-left-of c = (goes_at c).left
+left_of : (c : After) → (head c).loop-settings.steps < (entry (head c)).args.budget
+left_of c = (goes_at c).left
 
 -- what is remembered when the step is decided
 abbrev pages_at : After → List ℕ
@@ -121,7 +124,7 @@ module _ (c : After) where
   abbrev h : Head
   h = head c
 
-  abbrev a : tie.Start invariant-loop decreases-loop
+  abbrev a : lts.Start tie.the-claims reads.Pre reads.Post goal.the-invariant-loop-settings goal.the-decreases-loop-settings
   a = entry h
 
   abbrev d : Decision
@@ -142,41 +145,41 @@ module _ (c : After) where
       beside_of a.args.execution.now a.args.bootstrap.now f.new.ram (started c).start-after.new.paper f.new.journal
       f.new.index
 
-  turn_is : TurnIs a.args.settings (parts_at h) (beside_at h) d.effect-1 parts_then beside_then
+  turn_is : TurnIs a.args.settings (parts_at h) (beside_at h) d.effect parts_then beside_then
   turn_is =
-      turned_is a.args.settings (parts_at h) (beside_at h) (whole-at h) h.loop-settings.invariant.5 h.loop-settings.invariant.6 (started c).start-after.ensures.0 (started c).start-after.ensures.1.0
+      turned_is a.args.settings (parts_at h) (beside_at h) (whole_at h) h.loop-settings.invariant.5 h.loop-settings.invariant.6 (started c).start-after.ensures.0 (started c).start-after.ensures.1.0
       (started c).start-after.auto.journal (started c).start-after.ensures.1.1
       (read c).core_in-now.ensures (decided c).decide-d.ensures (asked c).old_row-old.ensures (finished c).finish-turned.ensures.0 (finished c).finish-turned.ensures.1.0 (finished c).finish-turned.ensures.1.1
 
-  index_long : length beside_then.index-1 ≡ length h.loop-settings.index
+  index_long : length beside_then.index ≡ length h.loop-settings.index
   index_long = (finished c).finish-turned.auto.index
 
-  journal_long : length beside_then.journal-1 ≡ length h.loop-settings.journal
+  journal_long : length beside_then.journal ≡ length h.loop-settings.journal
   journal_long = (finished c).finish-turned.auto.journal ∙ (started c).start-after.auto.journal
 
   same : slots_of h.loop-settings.journal ≡ slots_of a.args.journal.now
   same = rw h.loop-settings.invariant.3
 
-  module _ {e : Effect} (told : d.effect-1 ≡ e) (rows : List Row) (put : rows_after e h.loop-settings.rows ≡ rows) (long : length rows ≡ 16) (limit : ℕ)
+  module _ {e : Effect} (told : d.effect ≡ e) (rows : List Row) (put : rows_after e h.loop-settings.rows ≡ rows) (long : length rows ≡ 16) (limit : ℕ)
       (next : NextLook rows (h.loop-settings.steps + 1) a.args.budget limit) (pages : List ℕ) (true_of : Known pages rows (length a.args.ram.now)) where
     abbrev there : Config (forward roms)
     there = config_of roms a.args.settings (turns.with_rows rows parts_then) beside_then
 
-    left-rows : parts_then.rows-1 ≡ rows
-    left-rows = ap (λ (x : Effect). rows_after x h.loop-settings.rows) told ∙ put
+    left_rows : parts_then.rows ≡ rows
+    left_rows = ap (λ (x : Effect). rows_after x h.loop-settings.rows) told ∙ put
 
     abbrev Onward : Type 0
     Onward =
         NextLook rows (h.loop-settings.steps + 1) a.args.budget limit
-        × (length beside_then.ram-1 ≡ length a.args.ram.now)
-        × (length beside_then.paper-1 ≡ length a.args.paper.now)
-        × (length beside_then.journal-1 ≡ length a.args.journal.now)
-        × Told parts_then.held-1 parts_then.words-1
-        × slots.Ready beside_then.journal-1 parts_then.mark-1
+        × (length beside_then.ram ≡ length a.args.ram.now)
+        × (length beside_then.paper ≡ length a.args.paper.now)
+        × (length beside_then.journal ≡ length a.args.journal.now)
+        × Told parts_then.held parts_then.words
+        × slots.Ready beside_then.journal parts_then.mark
         × (length rows ≡ 16)
-        × (length parts_then.core-1 ≡ 14)
-        × HoldsZero parts_then.regs-1
-        × (length beside_then.index-1 ≡ length a.args.index.now)
+        × (length parts_then.core ≡ 14)
+        × HoldsZero parts_then.regs
+        × (length beside_then.index ≡ length a.args.index.now)
         × Known pages rows (length a.args.ram.now)
         × Reached (forward roms) (slots_of a.args.journal.now) a.args.budget a.args.stop from (h.loop-settings.steps + 1) there
 
@@ -186,22 +189,22 @@ module _ (c : After) where
           next,
           (finished c).finish-turned.auto.ram ∙ i.1,
           (started c).start-after.auto.paper ∙ i.2,
-          journal-long ∙ i.3,
+          journal_long ∙ i.3,
           turn_is.told,
-          turns.ready (slots_of a.args.journal.now) a.args.budget a.args.stop turn_is journal-long i.5,
+          turns.ready (slots_of a.args.journal.now) a.args.budget a.args.stop turn_is journal_long i.5,
           long,
           turn_is.fourteen,
-          applied_zero _ 16 (finished c).finish-turned.ensures.0 (within-at (decided c)) i.8,
-          index-long ∙ i.9,
+          applied_zero _ 16 (finished c).finish-turned.ensures.0 (within_at (decided c)) i.8,
+          index_long ∙ i.9,
           true_of,
-          turns.goes _ _ a.args.stop turn_is same told rows left-rows from h.loop-settings.steps (left-of c) i.11 (once-at c) q,
+          turns.goes _ _ a.args.stop turn_is same told rows left_rows from h.loop-settings.steps (left_of c) i.11 (once_at c) q,
         )
 
     onward : enters e ≡ false → Onward
     onward quiet = again (rw quiet (and-false a.args.stop))
 
     ends : (a.args.stop && enters e) ≡ true → ring.run (forward roms) (slots_of a.args.journal.now) a.args.budget a.args.stop from ≡ ended there (h.loop-settings.steps + 1) excepted
-    ends q = turns.ends _ _ a.args.stop turn_is same told rows left-rows from h.loop-settings.steps (left-of c) h.loop-settings.invariant.11 (once-at c) q
+    ends q = turns.ends _ _ a.args.stop turn_is same told rows left_rows from h.loop-settings.steps (left_of c) h.loop-settings.invariant.11 (once_at c) q
 
 -- an effect that sets no row
 stays : (c : After) {e : Effect} (told : (decided c).decide-d.result.effect ≡ e) (same : rows_after e (head c).loop-settings.rows ≡ (head c).loop-settings.rows) → enters e ≡ false →
@@ -210,18 +213,18 @@ stays c told same quiet = onward c told (head c).loop-settings.rows same (head c
 
 pub loop-settings-init : goal.loop-settings-init
 loop-settings-init c =
-    let start = c in
+    let start = c.before.before.before.before.before.before.before.before.before.before.before.before.before.before in
     (next_look _ 0 _ _ (omega arith) c.next_look-limit.ensures, refl, refl, refl, start.requires.told, start.requires.ready, start.requires.table, start.requires.fourteen, start.requires.zero, refl, knows_none _ _, reached_start _ _ _ _ _)
 
 pub looked-look-requires : goal.looked-look-requires
 looked-look-requires c =
-    let h = c in
+    let h = c.before.before.before.before.before in
     let at = h.loop-settings.invariant.0 in
-    (omega (arith, at.below, at.most), (whole-at h, h.loop-settings.invariant.8))
+    (omega (arith, at.below, at.most), (whole_at h, h.loop-settings.invariant.8))
 
 pub start-after-requires : goal.start-after-requires
 start-after-requires c =
-    let h = head_of c in
+    let h = head_of c.before.before.before.before.before.before in
     record {
       fourteen = h.loop-settings.invariant.7;
       told = h.loop-settings.invariant.4;
@@ -231,132 +234,132 @@ start-after-requires c =
 
 pub follow-requires : goal.follow-requires
 follow-requires c =
-    let h = head_of c in
-    ((whole-at h).ram.few, rw h.loop-settings.invariant.1 h.loop-settings.invariant.10)
+    let h = head_of c.before.before.before.before.before.before.before.before.before.before.before.before.before.before.before.before.before in
+    ((whole_at h).ram.few, rw h.loop-settings.invariant.1 h.loop-settings.invariant.10)
 
 pub decide-d-requires : goal.decide-d-requires
 decide-d-requires c =
-    let followed = c in
-    let h = head_of followed in
-    (whole-at h, (h.loop-settings.invariant.8, followed.follow.ensures))
+    let followed = c.before.before.before.before in
+    let h = head_of followed.before.before.before.before.before.before.before.before.before.before.before.before.before.before.before.before.before in
+    (whole_at h, (h.loop-settings.invariant.8, followed.follow.ensures))
 
 pub finish-turned-requires : goal.finish-turned-requires
 finish-turned-requires c =
-    let decided = c in
-    let started = decided in
-    let h = head_of started in
+    let decided = c.before.before.before.before.before.before.before.before in
+    let started = decided.before.before.before.before.before.before.before.before.before.before.before.before.before.before.before in
+    let h = head_of started.before.before.before.before.before.before in
     let framed = (entry h).requires.framed in
     let long = h.loop-settings.invariant.9 in
-    (still_ready (begun_record (parts_at h) (beside_at h)) h.loop-settings.invariant.5 (length_printers h.loop-settings.words) started.start-after.ensures.1.0, (record { whole_frames = rw h.loop-settings.invariant.1 framed.whole_frames; sixteen_each = rw (long, h.loop-settings.invariant.1) framed.sixteen_each }, (within-at decided, (started.start-after.ensures.0.told, whole-at h))))
+    (still_ready (begun_record (parts_at h) (beside_at h)) h.loop-settings.invariant.5 (length_printers h.loop-settings.words) started.start-after.ensures.1.0, (record { whole_frames = rw h.loop-settings.invariant.1 framed.whole_frames; sixteen_each = rw (long, h.loop-settings.invariant.1) framed.sixteen_each }, (within_at decided, (started.start-after.ensures.0.told, whole_at h))))
 
 pub overflow_add-steps : goal.overflow_add-steps
-overflow_add-steps c = omega (arith, left-of c, (entry (head c)).fits.budget)
+overflow_add-steps c = omega (arith, left_of c.before, (entry (head c.before)).fits.budget)
 
 pub loop-settings-smaller-else-stop : goal.loop-settings-smaller-else-stop
-loop-settings-smaller-else-stop c = omega (arith, left-of c)
+loop-settings-smaller-else-stop c = omega (arith, left_of c.before.before.before.before)
 
 pub loop-settings-preserved-else-stop : goal.loop-settings-preserved-else-stop
 loop-settings-preserved-else-stop c =
-    let m = c in
+    let m = c.before.before.before.before in
     again m c.in-Raise.is (head m).loop-settings.rows refl (head m).loop-settings.invariant.6 (looked m).looked-look.result.limit (goes_at m).next (pages_at m) (known_at m) (rw c.if-stop.false)
 
 pub loop-settings-smaller-in-TlbRow : goal.loop-settings-smaller-in-TlbRow
-loop-settings-smaller-in-TlbRow c = omega (arith, left-of c)
+loop-settings-smaller-in-TlbRow c = omega (arith, left_of c.before.before.before.before.before.before)
 
 pub loop-settings-preserved-in-TlbRow : goal.loop-settings-preserved-in-TlbRow
 loop-settings-preserved-in-TlbRow c =
-    let wrote = c in
-    let known = wrote in
-    let m = known in
+    let wrote = c.before.before in
+    let known = wrote.before.before in
+    let m = known.before.before in
     let rows = (head m).loop-settings.rows in
     let told = known.in-TlbRow.is in
-    let few = rw (← (head m).loop-settings.invariant.6) at (turns.in_rows _ 16 told (within-at (decided m))) in
-    let left = left-of m in
+    let few = rw (← (head m).loop-settings.invariant.6) at (turns.in_rows _ 16 told (within_at (decided m))) in
+    let left = left_of m in
     onward m told wrote.write-written.result (sym (wrote.write-written.ensures ∙ written_row rows _ few _))
     (ap (λ (l : List Row). length l) wrote.write-written.ensures ∙ length_written rows _ _ ∙ (head m).loop-settings.invariant.6) c.next_look-limit-in-TlbRow.result
     (next_look wrote.write-written.result ((head m).loop-settings.steps + 1) _ c.next_look-limit-in-TlbRow.result (omega arith) c.next_look-limit-in-TlbRow.ensures) _ (knows_none wrote.write-written.result _) refl
 
 pub loop-settings-smaller-in-Nothing : goal.loop-settings-smaller-in-Nothing
-loop-settings-smaller-in-Nothing c = omega (arith, left-of c)
+loop-settings-smaller-in-Nothing c = omega (arith, left_of c.before.before.before)
 
 pub loop-settings-preserved-in-Nothing : goal.loop-settings-preserved-in-Nothing
-loop-settings-preserved-in-Nothing c = stays c c.in-Nothing.is refl refl
+loop-settings-preserved-in-Nothing c = stays c.before.before.before c.in-Nothing.is refl refl
 
 pub loop-settings-smaller-in-Register : goal.loop-settings-smaller-in-Register
-loop-settings-smaller-in-Register c = omega (arith, left-of c)
+loop-settings-smaller-in-Register c = omega (arith, left_of c.before.before.before)
 
 pub loop-settings-preserved-in-Register : goal.loop-settings-preserved-in-Register
-loop-settings-preserved-in-Register c = stays c c.in-Register.is refl refl
+loop-settings-preserved-in-Register c = stays c.before.before.before c.in-Register.is refl refl
 
 pub loop-settings-smaller-in-HiLo : goal.loop-settings-smaller-in-HiLo
-loop-settings-smaller-in-HiLo c = omega (arith, left-of c)
+loop-settings-smaller-in-HiLo c = omega (arith, left_of c.before.before.before)
 
 pub loop-settings-preserved-in-HiLo : goal.loop-settings-preserved-in-HiLo
-loop-settings-preserved-in-HiLo c = stays c c.in-HiLo.is refl refl
+loop-settings-preserved-in-HiLo c = stays c.before.before.before c.in-HiLo.is refl refl
 
 pub loop-settings-smaller-in-Control : goal.loop-settings-smaller-in-Control
-loop-settings-smaller-in-Control c = omega (arith, left-of c)
+loop-settings-smaller-in-Control c = omega (arith, left_of c.before.before.before)
 
 pub loop-settings-preserved-in-Control : goal.loop-settings-preserved-in-Control
-loop-settings-preserved-in-Control c = stays c c.in-Control.is refl refl
+loop-settings-preserved-in-Control c = stays c.before.before.before c.in-Control.is refl refl
 
 pub loop-settings-smaller-in-Entry : goal.loop-settings-smaller-in-Entry
-loop-settings-smaller-in-Entry c = omega (arith, left-of c)
+loop-settings-smaller-in-Entry c = omega (arith, left_of c.before.before.before)
 
 pub loop-settings-preserved-in-Entry : goal.loop-settings-preserved-in-Entry
-loop-settings-preserved-in-Entry c = stays c c.in-Entry.is refl refl
+loop-settings-preserved-in-Entry c = stays c.before.before.before c.in-Entry.is refl refl
 
 pub loop-settings-smaller-in-Ram : goal.loop-settings-smaller-in-Ram
-loop-settings-smaller-in-Ram c = omega (arith, left-of c)
+loop-settings-smaller-in-Ram c = omega (arith, left_of c.before.before.before)
 
 pub loop-settings-preserved-in-Ram : goal.loop-settings-preserved-in-Ram
-loop-settings-preserved-in-Ram c = stays c c.in-Ram.is refl refl
+loop-settings-preserved-in-Ram c = stays c.before.before.before c.in-Ram.is refl refl
 
 pub loop-settings-smaller-in-DeviceLoad : goal.loop-settings-smaller-in-DeviceLoad
-loop-settings-smaller-in-DeviceLoad c = omega (arith, left-of c)
+loop-settings-smaller-in-DeviceLoad c = omega (arith, left_of c.before.before.before)
 
 pub loop-settings-preserved-in-DeviceLoad : goal.loop-settings-preserved-in-DeviceLoad
-loop-settings-preserved-in-DeviceLoad c = stays c c.in-DeviceLoad.is refl refl
+loop-settings-preserved-in-DeviceLoad c = stays c.before.before.before c.in-DeviceLoad.is refl refl
 
 pub loop-settings-smaller : goal.loop-settings-smaller
-loop-settings-smaller c = omega (arith, left-of c)
+loop-settings-smaller c = omega (arith, left_of c.before.before.before)
 
 pub loop-settings-preserved : goal.loop-settings-preserved
-loop-settings-preserved c = stays c c.in-DeviceStore.is refl refl
+loop-settings-preserved c = stays c.before.before.before c.in-DeviceStore.is refl refl
 
 pub shape_of-ram-then-look : goal.shape_of-ram-then-look
-shape_of-ram-then-look c = (head_of c).loop-settings.invariant.1
+shape_of-ram-then-look c = (head_of c.before.before).loop-settings.invariant.1
 
 pub shape_of-paper-then-look : goal.shape_of-paper-then-look
-shape_of-paper-then-look c = (head_of c).loop-settings.invariant.2
+shape_of-paper-then-look c = (head_of c.before.before).loop-settings.invariant.2
 
 pub shape_of-journal-then-look : goal.shape_of-journal-then-look
-shape_of-journal-then-look c = (head_of c).loop-settings.invariant.3
+shape_of-journal-then-look c = (head_of c.before.before).loop-settings.invariant.3
 
 pub shape_of-index-then-look : goal.shape_of-index-then-look
-shape_of-index-then-look c = (head_of c).loop-settings.invariant.9
+shape_of-index-then-look c = (head_of c.before.before).loop-settings.invariant.9
 
 pub returns-then-look : goal.returns-then-look
 returns-then-look c =
-    let asked = c in
+    let asked = c.before.before in
     let h = head_of asked in
     sym
     (look_ends h.loop-settings.rows h.loop-settings.steps h.loop-settings.limit (entry h).args.budget (asks h) asked.looked-look.result asked.looked-look.ensures h.loop-settings.invariant.0 _ _ _ _ _
     h.loop-settings.invariant.11 (sym (halts_ahead (parts_at h) (entry h).args.settings (beside_at h))) c.if-look.true)
 
 pub shape_of-ram-then-stop : goal.shape_of-ram-then-stop
-shape_of-ram-then-stop c = let m = c in (finished m).finish-turned.auto.ram ∙ (head m).loop-settings.invariant.1
+shape_of-ram-then-stop c = let m = c.before.before.before.before in (finished m).finish-turned.auto.ram ∙ (head m).loop-settings.invariant.1
 
 pub shape_of-paper-then-stop : goal.shape_of-paper-then-stop
-shape_of-paper-then-stop c = let m = c in (started m).start-after.auto.paper ∙ (head m).loop-settings.invariant.2
+shape_of-paper-then-stop c = let m = c.before.before.before.before in (started m).start-after.auto.paper ∙ (head m).loop-settings.invariant.2
 
 pub shape_of-journal-then-stop : goal.shape_of-journal-then-stop
-shape_of-journal-then-stop c = let m = c in journal-long m ∙ (head m).loop-settings.invariant.3
+shape_of-journal-then-stop c = let m = c.before.before.before.before in journal_long m ∙ (head m).loop-settings.invariant.3
 
 pub shape_of-index-then-stop : goal.shape_of-index-then-stop
-shape_of-index-then-stop c = let m = c in index-long m ∙ (head m).loop-settings.invariant.9
+shape_of-index-then-stop c = let m = c.before.before.before.before in index_long m ∙ (head m).loop-settings.invariant.9
 
 pub returns-then-stop : goal.returns-then-stop
 returns-then-stop c =
-    let m = c in
+    let m = c.before.before.before.before in
     sym (ends m c.in-Raise.is (head m).loop-settings.rows refl (head m).loop-settings.invariant.6 (looked m).looked-look.result.limit (goes_at m).next (pages_at m) (known_at m) (rw c.if-stop.true))

@@ -1,6 +1,6 @@
--- `run::spin` meets its contract: at the loop's head the run from the start is the run from here, `steps` later. What a turn's calls ensure is one step (`turned-is`).
+-- `run::spin` meets its contract: at the loop's head the run from the start is the run from here, `steps` later. What a turn's calls ensure is one step (`turned_is`).
 -- The arms differ in what they know of the effect; `again` and `ends` take each of them from the turn's statement.
-use Rattle.std.specs.Prelude.{◌≡◌, ℕ, ◌+◌, ◌-◌, ◌<◌, ◌≤◌, Bool, true, false, ◌&&◌, List, length}
+use Rattle.core.specs.Prelude.{◌≡◌, ℕ, ◌+◌, ◌-◌, ◌<◌, ◌≤◌, Bool, true, false, ◌&&◌, List, length}
 use mathlib.Core.Path.{◌∙◌, refl, sym, ap}
 use mathlib.Core.Bool.{and-false}
 use native.Mathlib.Omega.{arith}
