@@ -1,7 +1,6 @@
 -- Safe and ending: up to the end of the text, in a buffer that keeps its length.
 use mathlib.Core.Path.{◌≡◌}
 use Prim.Native.Nat.{◌≤◌, ◌-◌}
-use borrow.Author.Rules.{rules}
 use lib.ListN.{length}
 use Rattle.screen.proofs.paper.all.Given as goal
 

@@ -1,7 +1,6 @@
 -- Safe and ending: as many rows as the table has, in a buffer that keeps its length.
 use mathlib.Core.Path.{◌≡◌}
 use Prim.Native.Nat.{◌≤◌, ◌-◌}
-use borrow.Author.Rules.{rules}
 use lib.ListN.{length}
 use Rattle.screen.proofs.tables.rows.Given as goal
 

@@ -1,5 +1,5 @@
 -- Safe and ending: as many units as asked for, in a buffer that keeps its length.
-use Rattle.std.proofs.Common.{◌≡◌, ◌-◌, ◌≤◌, length, rules}
+use Rattle.std.proofs.Common.{◌≡◌, ◌-◌, ◌≤◌, length}
 use Rattle.views.proofs.examine.all.Given as goal
 
 abbrev pub invariant-loop-k : goal.invariant-loop-k
