@@ -95,7 +95,7 @@ module _ (old image : List ℕ) (paper journal : ℕ) where
   refused_same h = kept (convert_answer old image paper journal) h
     where
       kept : (r : Answer) → (number_of r ≡ 0 → ⊥) → image_after r old image ≡ image
-      kept (Done steps reason) h = absurd (h refl)
+      kept (Done steps _) h = absurd (h refl)
       kept (Refused refusal) h = refl
 
   -- two answers that the statement allows are equal, and so are the images

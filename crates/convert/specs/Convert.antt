@@ -61,7 +61,7 @@ convert_answer old image paper journal =
 
 -- a refusal writes nothing
 abbrev pub image_after : Answer → List ℕ → List ℕ → List ℕ
-image_after (Done steps reason) old image = bytes_of (emptied (machine_before old))
+image_after (Done steps _) old image = bytes_of (emptied (machine_before old))
 image_after (Refused refusal) old image = image
 
 abbrev pub convert_image : List ℕ → List ℕ → ℕ → ℕ → List ℕ

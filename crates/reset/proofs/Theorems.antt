@@ -113,7 +113,7 @@ module _ (image index : List ℕ) (scale delay installed : ℕ) where
   refused_same h = kept answer h
     where
       kept : (r : Answer) → (number_of r ≡ 0 → ⊥) → (image_after r image scale delay installed ≡ image) × (index_after r index ≡ index)
-      kept (Done steps reason) h = absurd (h refl)
+      kept (Done steps _) h = absurd (h refl)
       kept (Refused refusal) h = (refl, refl)
 
   -- two answers that the statement allows are equal, and so are the images and the indexes

@@ -77,7 +77,7 @@ reset_answer image index scale delay installed =
 
 -- a refusal writes nothing
 abbrev pub image_after : Answer → List ℕ → ℕ → ℕ → ℕ → List ℕ
-image_after (Done steps reason) image scale delay installed = bytes_of (reset_machine scale delay installed)
+image_after (Done steps _) image scale delay installed = bytes_of (reset_machine scale delay installed)
 image_after (Refused refusal) image scale delay installed = image
 
 abbrev pub reset_image : List ℕ → List ℕ → ℕ → ℕ → ℕ → List ℕ
@@ -85,7 +85,7 @@ reset_image image index scale delay installed = image_after (reset_answer image 
 
 -- "which reset empties"
 abbrev pub index_after : Answer → List ℕ → List ℕ
-index_after (Done steps reason) index = replicate (length index) 0
+index_after (Done steps _) index = replicate (length index) 0
 index_after (Refused refusal) index = index
 
 abbrev pub reset_index : List ℕ → List ℕ → ℕ → ℕ → ℕ → List ℕ
