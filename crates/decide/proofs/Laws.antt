@@ -1,4 +1,4 @@
--- Every effect of a step is in range: `decide-within`.
+-- Every effect of a step is in range: `decide_within`.
 use Prim.{tt}
 use Prim.Native.Nat.{ℕ, ◌<◌}
 use mathlib.Core.Path.{◌≡◌}

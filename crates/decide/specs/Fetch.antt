@@ -1,4 +1,4 @@
--- What a fetch gives: the word at PC, or the exception that it is. In Decide the answer of the access says the same (`fetched-done`).
+-- What a fetch gives: the word at PC, or the exception that it is. In Decide the answer of the access says the same (`fetched_done`).
 use Rattle.std.specs.Prelude.{List}
 use Rattle.tlb.specs.declared.Row.{Row}
 use Rattle.reach.specs.declared.Reached.{Reached}

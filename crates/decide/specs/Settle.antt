@@ -53,7 +53,7 @@ loads_of op d old word (place.Execution at) = read_of op d old word at
 loads_of op d old word (place.Bootstrap at) = read_of op d old word at
 loads_of op d old word (place.Device at) = to_register d (DeviceLoad d at)
 
--- no store lands in ROM (`store-not-rom` of reach)
+-- no store lands in ROM (`store_not_rom` of reach)
 abbrev pub stores_of : StoreOp → ℕ → ℕ → Place → Effect
 stores_of op x word (place.Ram at) = Ram (at / 4 * 4) (store_part op x word at)
 stores_of op x word (place.Execution at) = Nothing

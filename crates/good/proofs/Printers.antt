@@ -71,7 +71,7 @@ module _ (p : Printer) (h : PrinterSmall p) where
 
 -- ---- the line over a write to printer n
 
-module _ (line : Line) (h : LineWords line) (eight : length line.printers ≡ 8) (n : ℕ) (in-line : n < 8) where
+module _ (line : Line) (h : LineWords line) (eight : length line.printers ≡ 8) (n : ℕ) (in_line : n < 8) where
   abbrev p : Printer
   p = get_or line.printers n no_printer
 
@@ -81,7 +81,7 @@ module _ (line : Line) (h : LineWords line) (eight : length line.printers ≡ 8)
     where
       by : (i : ℕ) → i < 8 → Dec (i ≡ n) → PrinterSmall (get_or (set line.printers n new) i no_printer)
       by i hi (yes e) =
-          let inside : n < length line.printers = rw eight in-line in
+          let inside : n < length line.printers = rw eight in_line in
           let same : get_or (set line.printers n new) i no_printer ≡ new = rw e (get_or-set_same line.printers n new no_printer inside) in
           small_as same s
       by i hi (no apart) = small_as (get_or-set_other line.printers n i new no_printer apart) (h.each i hi)
@@ -90,7 +90,7 @@ module _ (line : Line) (h : LineWords line) (eight : length line.printers ≡ 8)
   unfolding command_of
   command_words installed delay word d w =
       picked LineWords (takes_writes installed n line) _ _
-      (λ _. one_anew (commanded_of delay word p) (with_bit n (is_illegal word) line.pending) (printer_commanded p (h.each n in-line) delay word d w)
+      (λ _. one_anew (commanded_of delay word p) (with_bit n (is_illegal word) line.pending) (printer_commanded p (h.each n in_line) delay word d w)
       (with_small n 32 (is_illegal word) line.pending (omega arith) h.pending))
       (λ _. h)
 
@@ -98,7 +98,7 @@ module _ (line : Line) (h : LineWords line) (eight : length line.printers ≡ 8)
   unfolding data_of
   data_words installed word w =
       picked LineWords (takes_writes installed n line) _ _
-      (λ _. one_anew (with_data word p) line.pending (printer_data p (h.each n in-line) word w) h.pending) (λ _. h)
+      (λ _. one_anew (with_data word p) line.pending (printer_data p (h.each n in_line) word w) h.pending) (λ _. h)
 
 -- ---- the tick
 

@@ -1,5 +1,5 @@
 -- What holds of every state that a run meets: the processor and the board are made of words and keep the rules of document 01, and RAM and paper are bytes.
-use Rattle.std.specs.Prelude.{ℕ, ◌≡◌, true, length}
+use Rattle.std.specs.Prelude.{◌≡◌, true, length}
 use Rattle.word.specs.Lists.{Below}
 use Rattle.state.specs.Layout.{WellTyped}
 use Rattle.state.specs.declared.machine.Machine.{Machine}

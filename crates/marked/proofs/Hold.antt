@@ -2,7 +2,6 @@
 use mathlib.Core.Path.{◌≡◌, refl}
 use mathlib.Core.List.{map}
 use Rattle.word.specs.Little.{from_bytes, to_bytes}
-use Rattle.word.specs.Lists.{tabulate}
 use Rattle.word.specs.Map.{with_bit}
 use Rattle.word.specs.Mask.{overlaid_of}
 use Rattle.memory.specs.Memory.{load_at}
@@ -10,7 +9,7 @@ use Rattle.cp0.specs.Word.{pushed_of, popped_of}
 use Rattle.cp0.specs.Entry.{cause_of, entered_of}
 use Rattle.cp0.specs.Registers.{with_register}
 use Rattle.clock.specs.Tick.{ticked_of}
-use Rattle.printer.specs.Tick.{ticks, tick_one, printer_ticked, paper_ticked, finished_of}
+use Rattle.printer.specs.Tick.{ticks, tick_one, printer_ticked, paper_ticked}
 use Rattle.board.specs.Places.{mapped_of}
 use Rattle.reach.specs.Reach.{reach_of}
 use Rattle.reach.specs.Translate.{translated_of}

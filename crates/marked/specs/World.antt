@@ -2,7 +2,6 @@
 use Rattle.std.specs.Prelude.{ℕ, List, [], set}
 use Rattle.word.specs.Lists.{tabulate}
 use Rattle.word.specs.Sizes.{devices}
-use Rattle.clock.specs.declared.Clock.{Clock}
 use Rattle.cp0.specs.declared.registers.Cp0.{Cp0}
 use Rattle.printer.specs.Tick.{no_printer}
 use Rattle.state.specs.declared.machine.Board.{Board}

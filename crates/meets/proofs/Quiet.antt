@@ -102,10 +102,10 @@ module _ (cp0 : Cp0) (regs : List ℕ) (t : List Row) where
 
   -- ---- a table that is not doubled
 
-  module _ (not-doubled : doubled_in t ≡ false) where
+  module _ (not_doubled : doubled_in t ≡ false) where
     met_one : (k : Kind) (width : Width) (va : ℕ) → twice_of k width cp0 t va ≡ false
     unfolding twice_of
-    met_one k width va = reach.meets_one (mode_of cp0.status) (record { kind = k; width = width }) va t cp0.entry_hi not-doubled
+    met_one k width va = reach.meets_one (mode_of cp0.status) (record { kind = k; width = width }) va t cp0.entry_hi not_doubled
 
     access_one : (i : Instr) → Quiet i
     access_one (Load o d base offset) = met_one kind.Load (load_width o) (addiu_of (reg_of regs base) offset)
@@ -139,6 +139,6 @@ either false = refl
 
 pub meets_one : (core : Core) (regs : List ℕ) (t : List Row) (lent : Lent) → doubled_in t ≡ false → meets_two_of core regs t lent ≡ false
 unfolding meets_two_of
-meets_one core regs t lent not-doubled =
-    rw (met_one core.cp0 regs t not-doubled kind.Fetch Four core.pc, fetched_one core.cp0 regs t not-doubled (fetch_of core t lent))
+meets_one core regs t lent not_doubled =
+    rw (met_one core.cp0 regs t not_doubled kind.Fetch Four core.pc, fetched_one core.cp0 regs t not_doubled (fetch_of core t lent))
     (either (interrupts_of core.cp0.status core.cp0.cause))

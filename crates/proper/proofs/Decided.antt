@@ -1,4 +1,4 @@
--- What a step decides from words that keep the rules are words again, and leaves CP0 and the table keeping them: `decide-proper`.
+-- What a step decides from words that keep the rules are words again, and leaves CP0 and the table keeping them: `decide_proper`.
 use Prim.Native.Nat.{ℕ, ◌<◌}
 use mathlib.Core.List.{List}
 use native.Mathlib.Omega.{arith}

@@ -1,4 +1,4 @@
--- What an instruction intends are words that keep the rules: `intend-means`.
+-- What an instruction intends are words that keep the rules: `intend_means`.
 use Prim.Native.Nat.{ℕ, ◌+◌, ◌^◌, ◌<◌}
 use mathlib.Core.Bool.{Bool}
 use mathlib.Core.List.{List}

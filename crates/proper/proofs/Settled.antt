@@ -1,4 +1,4 @@
--- What an intent of words that keep the rules then changes are words again, and keeps them: `settle-proper`.
+-- What an intent of words that keep the rules then changes are words again, and keeps them: `settle_proper`.
 use Prim.{tt}
 use Prim.Native.Nat.{ℕ, ◌^◌, ◌≤◌, ◌<◌}
 use mathlib.Core.Bool.{Bool, false}

@@ -61,7 +61,7 @@ pub struct AfterPrinters {
     pub soon: u32,
 }
 
-// Printers that all stand still are not looked at (printer/proofs/Ticks: idle-tick), and where none ends they only wait.
+// Printers that all stand still are not looked at (printer/proofs/Ticks: idle_tick), and where none ends they only wait.
 fn printed(words: &mut [u32; 40], pending: u32, soon: u32, paper: &mut [u8]) -> AfterPrinters
     requires paper_len_bound { length paper.old ≤ 65536 }
     requires waits { Waits soon words.old × (length words.old ≡ 40) }

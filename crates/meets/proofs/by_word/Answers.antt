@@ -1,4 +1,4 @@
--- `meets::by_word` meets its contract: below 0x80000000 no word makes an access (`low-quiet`).
+-- `meets::by_word` meets its contract: below 0x80000000 no word makes an access (`low_quiet`).
 use mathlib.Core.Path.{sym, ap, ◌∙◌}
 use native.Mathlib.Omega.{arith}
 use Rattle.meets.specs.Meets.{access_meets_two}

@@ -1,4 +1,4 @@
--- `decide::fetch::fetch` meets its contract: a plain fetch has its word at once (`plain-fetch`), and one near the page that is remembered there (`near-fetch`).
+-- `decide::fetch::fetch` meets its contract: a plain fetch has its word at once (`plain_fetch`), and one near the page that is remembered there (`near_fetch`).
 use mathlib.Core.Path.{sym, ◌∙◌}
 use native.Mathlib.Omega.{arith}
 use Rattle.reach.proofs.PlainLands.{is_plain}
@@ -26,12 +26,12 @@ place-requires c =
 
 pub load_word-requires-then-near : goal.load_word-requires-then-near
 load_word-requires-then-near c =
-    let is_near = sym c.near.ensures ∙ c.if-near.true in
-    let is_kept = near_kept _ _ _ _ _ _ is_near c.requires.known.fetches in
-    rw c.place.ensures (near_room c.args.core c.args.rows (lent_of c.args.execution.now c.args.bootstrap.now c.args.ram.now) _ _ is_near is_kept)
+    let nearby = sym c.near.ensures ∙ c.if-near.true in
+    let kept = near_kept _ _ _ _ _ _ nearby c.requires.known.fetches in
+    rw c.place.ensures (near_room c.args.core c.args.rows (lent_of c.args.execution.now c.args.bootstrap.now c.args.ram.now) _ _ nearby kept)
 
 pub returns-then-near : goal.returns-then-near
 returns-then-near c =
-    let is_near = sym c.near.ensures ∙ c.if-near.true in
-    let is_kept = near_kept _ _ _ _ _ _ is_near c.requires.known.fetches in
-    rw (c.load_word-then-near.ensures, c.place.ensures) (sym (near_fetch c.args.core c.args.rows (lent_of c.args.execution.now c.args.bootstrap.now c.args.ram.now) _ _ is_near is_kept))
+    let nearby = sym c.near.ensures ∙ c.if-near.true in
+    let kept = near_kept _ _ _ _ _ _ nearby c.requires.known.fetches in
+    rw (c.load_word-then-near.ensures, c.place.ensures) (sym (near_fetch c.args.core c.args.rows (lent_of c.args.execution.now c.args.bootstrap.now c.args.ram.now) _ _ nearby kept))

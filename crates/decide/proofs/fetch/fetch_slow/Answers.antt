@@ -1,4 +1,4 @@
--- `decide::fetch::fetch_slow` meets its contract: the answer, and the word where it lands, for which there is room (`reached-room`).
+-- `decide::fetch::fetch_slow` meets its contract: the answer, and the word where it lands, for which there is room (`reached_room`).
 use Rattle.reach.specs.declared.access.Kind.TheVariants.{Fetch}
 use Rattle.reach.specs.declared.access.Width.TheVariants.{Four}
 use Rattle.intend.proofs.InParts.{reached_in_parts}

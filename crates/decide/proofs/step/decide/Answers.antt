@@ -1,4 +1,4 @@
--- `decide::step::decide` meets its contract: the interrupt test, then what the fetch gave (`decide-done`).
+-- `decide::step::decide` meets its contract: the interrupt test, then what the fetch gave (`decide_done`).
 use mathlib.Core.Path.{sym, ◌∙◌}
 use Rattle.decide.specs.Decide.{decide_of}
 use Rattle.decide.proofs.Fetches.{decide_done}

@@ -1,4 +1,4 @@
--- `decide::step::execute` meets its contract: what is decoded asks for what there is (`intent-asks`).
+-- `decide::step::execute` meets its contract: what is decoded asks for what there is (`intent_asks`).
 use Prim.Native.Nat.{◌<◌}
 use mathlib.Core.Path.{◌≡◌}
 use native.Mathlib.Omega.{arith}

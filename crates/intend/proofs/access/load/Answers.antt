@@ -1,5 +1,5 @@
--- `intend::access::load` meets its contract: the address, then its answer, which a plain access has without the table (`plain-lands`), and one near the page that is remembered
--- from that page (`near-lands`).
+-- `intend::access::load` meets its contract: the address, then its answer, which a plain access has without the table (`plain_lands`), and one near the page that is remembered
+-- from that page (`near_lands`).
 use Rattle.std.proofs.Common.{get_or, sym, refl, ◌∙◌, arith}
 use Rattle.reach.proofs.PlainLands.{is_plain}
 use Rattle.reach.specs.declared.access.Kind.TheVariants as kind
@@ -27,13 +27,13 @@ place-requires c =
 
 pub returns-then-near : goal.returns-then-near
 returns-then-near c =
-    let is_near = sym c.near.ensures ∙ c.if-near.true in
+    let nearby = sym c.near.ensures ∙ c.if-near.true in
     rw (
       ← c.reg.ensures,
       ← c.addiu-va.ensures,
       ← c.load_width-width.ensures,
       c.place.ensures,
-      near_lands kind.Load c.load_width-width.result c.args.cp0 c.args.rows c.args.sizes _ (get_or c.args.pages.now 3 0) c.addiu-va.result is_near (near_kept _ _ _ _ _ _ is_near c.requires.known.accesses) refl,
+      near_lands kind.Load c.load_width-width.result c.args.cp0 c.args.rows c.args.sizes _ (get_or c.args.pages.now 3 0) c.addiu-va.result nearby (near_kept _ _ _ _ _ _ nearby c.requires.known.accesses) refl,
     )
 
 pub returns : goal.returns

@@ -1,5 +1,5 @@
--- `intend::access::store` meets its contract: the address, then its answer, which a plain access has without the table (`plain-lands`), and one near the page that is remembered
--- from that page, where D is on (`near-lands`, `may-store`).
+-- `intend::access::store` meets its contract: the address, then its answer, which a plain access has without the table (`plain_lands`), and one near the page that is remembered
+-- from that page, where D is on (`near_lands`, `may_store`).
 use Rattle.std.proofs.Common.{◌≡◌, true, eqb, get_or, sym, ◌∙◌, arith, eqb-true}
 use Rattle.word.proofs.Cond.{both}
 use Rattle.reach.proofs.PlainLands.{is_plain}
@@ -33,16 +33,16 @@ place-requires c =
 pub returns-then-near-pages : goal.returns-then-near-pages
 returns-then-near-pages c =
     let told : (c.near.result ≡ true) × (eqb (get_or c.args.pages.now 4 0) 1 ≡ true) = both _ _ c.if-near-pages.true in
-    let is_near = sym c.near.ensures ∙ told.0 in
-    let is_kept = near_kept _ _ _ _ _ _ is_near c.requires.known.accesses in
-    let is_dirty : MayReach kind.Store (page_of (get_or c.args.pages.now 2 0) c.args.rows c.args.sizes.ram) = may_store _ _ _ _ _ _ _ _ is_near c.requires.known.dirty (eqb-true _ _ told.1) in
+    let nearby = sym c.near.ensures ∙ told.0 in
+    let kept = near_kept _ _ _ _ _ _ nearby c.requires.known.accesses in
+    let dirty : MayReach kind.Store (page_of (get_or c.args.pages.now 2 0) c.args.rows c.args.sizes.ram) = may_store _ _ _ _ _ _ _ _ nearby c.requires.known.dirty (eqb-true _ _ told.1) in
     rw (
       ← c.reg.ensures,
       ← c.addiu-va.ensures,
       ← c.store_width-width.ensures,
       c.reg-then-near-pages.ensures,
       c.place.ensures,
-      near_lands kind.Store c.store_width-width.result c.args.cp0 c.args.rows c.args.sizes _ (get_or c.args.pages.now 3 0) c.addiu-va.result is_near is_kept is_dirty,
+      near_lands kind.Store c.store_width-width.result c.args.cp0 c.args.rows c.args.sizes _ (get_or c.args.pages.now 3 0) c.addiu-va.result nearby kept dirty,
     )
 
 pub returns : goal.returns

@@ -1,4 +1,4 @@
--- `step::apply::commanded` meets its contract: a printer at work takes no command (`stores-refused`), any other may have begun to work (`stores-command`).
+-- `step::apply::commanded` meets its contract: a printer at work takes no command (`stores_refused`), any other may have begun to work (`stores_command`).
 use native.Mathlib.Omega.{arith}
 use borrow.Author.Tests.{eq-eqb}
 use Rattle.step.proofs.Held.{stores_command, stores_refused}

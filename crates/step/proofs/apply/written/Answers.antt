@@ -1,4 +1,4 @@
--- `step::apply::written` meets its contract: the printers that work are those that did (`stores-data`).
+-- `step::apply::written` meets its contract: the printers that work are those that did (`stores_data`).
 use Rattle.step.proofs.Held.{stores_data}
 use Rattle.step.proofs.apply.written.Goals as goal
 
