@@ -30,7 +30,7 @@ refusal_number Word = 11
 refusal_number Room = 12
 
 abbrev pub number_of : Answer → ℕ
-number_of (Done steps reason) = 0
+number_of (Done steps _) = 0
 number_of (Refused refusal) = refusal_number refusal
 
 -- "Every refusal returns 0 steps and no stop reason"
@@ -39,7 +39,7 @@ reason_of (Done steps reason) = reason_number reason
 reason_of (Refused refusal) = 0
 
 abbrev pub steps_of : Answer → ℕ
-steps_of (Done steps reason) = steps
+steps_of (Done steps _) = steps
 steps_of (Refused refusal) = 0
 
 -- the number in bits 0 to 7, the reason in bits 8 to 15, the steps in bits 32 to 63
