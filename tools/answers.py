@@ -166,7 +166,7 @@ class Turn:
                 self.notes.append(f"no place {old}")
                 return m[0]
             rest = " goal.the-invariant-" + self.made["loops"][0][0][1] + " goal.the-decreases-" + self.made["loops"][0][0][1] if m[2].strip() else ""
-            return f"lts.{self.made['places_by_name'][found]} tie.the-claims reads.Pre reads.Post{rest}"
+            return f"lts.{self.made['places'][found][0]} tie.the-claims reads.Pre reads.Post{rest} tie.handed_clauses"
 
         return re.sub(r"tie\.((?:After|At|In|Then|Else|Start)[\w-]*)((?: (?:invariant|decreases)-[\w-]+)*)", place, text)
 

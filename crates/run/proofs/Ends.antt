@@ -1,6 +1,6 @@
 -- The parts that the loop opens a machine into are that machine, and so are those that it closes again.
 use Rattle.std.specs.Prelude.{◌≡◌, ℕ, Bool, length}
-use mathlib.Core.Path.{refl, sym, ap, ◌∙◌}
+use mathlib.Core.Path.{refl, ap, ◌∙◌}
 use Rattle.ring.specs.Run.{Config, ended}
 use Rattle.ring.specs.Run as ring
 use Rattle.journal.specs.Journal.{slots_of}

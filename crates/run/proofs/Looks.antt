@@ -18,7 +18,6 @@ use Rattle.step.specs.Parts.{ahead_of}
 use Rattle.step.specs.Step.{halts_of}
 use Rattle.step.specs.Tick.{tick_of}
 use Rattle.step.proofs.Ticks.{ahead_is}
-use Rattle.held.specs.Board.{board_of}
 use Rattle.state.specs.declared.machine.Core.{Core}
 use Rattle.turn.specs.Buffers.{Beside, roms_in}
 use Rattle.turn.specs.Turn.{lent_from, world_held}

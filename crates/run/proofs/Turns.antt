@@ -1,6 +1,6 @@
 -- A turn of the loop is one step of the run, over plain values: the walk of the code hands its facts over by name.
 use Rattle.std.specs.Prelude.{◌≡◌, ℕ, ◌+◌, ◌/◌, ◌<◌, Bool, true, false, ◌&&◌, List, length}
-use mathlib.Core.Path.{refl, sym, ap, ◌∙◌}
+use mathlib.Core.Path.{sym, ap, ◌∙◌}
 use Rattle.ring.specs.Machine.{Forward}
 use Rattle.ring.specs.Run.{Config, advance, ended, excepted}
 use Rattle.ring.specs.Run as ring

@@ -1,5 +1,4 @@
 -- `run::closed` meets its contract, part by part: the core and the printers are read from their words, and all else stays as it is.
-use borrow.Author.Rules.{rules}
 use Rattle.run.proofs.closed.Goals as goal
 
 pub returns : goal.returns

@@ -1,5 +1,4 @@
 -- `run::opened` meets its contract.
-use borrow.Author.Rules.{rules}
 use Rattle.run.proofs.opened.Goals as goal
 
 pub returns : goal.returns
