@@ -1,5 +1,5 @@
 -- `undo::back::clock_back` meets its contract: the wrapped number, shown by the two words.
-use Rattle.std.proofs.Common.{◌≡◌, ℕ, ap, arith, rules}
+use Rattle.std.proofs.Common.{◌≡◌, ℕ, ap, arith}
 use Rattle.clock.specs.Tick.{time_of, clock_at, down}
 use Rattle.undo.proofs.back.clock_back.Goals as goal
 

@@ -1,5 +1,4 @@
 -- `undo::back::cpu_back` meets its contract: each part is what its own function ensures, or is the record's.
-use Rattle.std.proofs.Common.{rules}
 use Rattle.undo.proofs.back.cpu_back.Goals as goal
 
 pub returns : goal.returns

@@ -1,5 +1,4 @@
 -- `undo::back::machine_back` meets its contract: each part is what its own function ensures.
-use Rattle.std.proofs.Common.{rules}
 use Rattle.undo.proofs.back.machine_back.Goals as goal
 
 pub returns : goal.returns

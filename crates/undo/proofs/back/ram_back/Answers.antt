@@ -1,13 +1,11 @@
 -- `undo::back::ram_back` meets its contract, variant by variant.
-use Rattle.std.proofs.Common.{◌+◌, ◌≤◌, length, ◌∙◌, arith, rules, leb-true}
+use Rattle.std.proofs.Common.{◌+◌, ◌≤◌, length, ◌∙◌, arith, leb-true}
 use Rattle.memory.proofs.Cells.{stored_sets}
 use Rattle.undo.proofs.back.ram_back.Goals as goal
 
 pub store_word-requires : goal.store_word-requires
 store_word-requires c =
-    let saved = c.s-1.given in
-    let start = c in
-    let room : saved.0.0 + 4 ≤ length start.args.ram.now = leb-true _ _ (rw saved.1 at start.requires) in
+    let room : c.in-RamWord.place + 4 ≤ length c.args.ram.now = leb-true _ _ (rw c.in-RamWord.is at c.requires) in
     omega (arith, room)
 
 pub returns-in-RamWord : goal.returns-in-RamWord

@@ -1,6 +1,5 @@
 -- `undo::back::regs_back` meets its contract, variant by variant.
 use Rattle.undo.proofs.Laws.{register_below}
-use Rattle.std.proofs.Common.{rules}
 use Rattle.undo.proofs.back.regs_back.Goals as goal
 
 pub bounds-back-at : goal.bounds-back-at

@@ -1,5 +1,5 @@
 -- `undo::back::rows_back` meets its contract, variant by variant.
-use Rattle.std.proofs.Common.{rules, ltb-true}
+use Rattle.std.proofs.Common.{ltb-true}
 use Rattle.undo.proofs.back.rows_back.Goals as goal
 
 pub bounds-back-at : goal.bounds-back-at

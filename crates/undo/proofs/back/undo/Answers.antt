@@ -1,6 +1,5 @@
 -- `undo::back::undo` meets its contract: each part is what its own function ensures.
 use Rattle.undo.specs.Undo.{undo_of}
-use Rattle.std.proofs.Common.{rules}
 use Rattle.undo.proofs.back.undo.Goals as goal
 
 pub returns : goal.returns

@@ -1,6 +1,5 @@
 -- `undo::fit::checked` meets its contract, test by test.
-use Rattle.std.proofs.Common.{sym, ◌∙◌, rules}
-use borrow.Author.Tests.{not-true, not-false}
+use Rattle.std.proofs.Common.{sym, ◌∙◌}
 use Rattle.record.proofs.RoundTrip.{kept_saved}
 use Rattle.undo.proofs.Checked.{not_laid_out, laid_out}
 use Rattle.undo.proofs.fit.checked.Goals as goal

@@ -1,8 +1,7 @@
 -- `undo::fit::paper_places_fit` meets its contract. The invariant: `ok` says whether the places passed are there.
-use Rattle.std.proofs.Common.{◌≡◌, ◌-◌, ◌≤◌, refl, add-one, arith}
+use Rattle.std.proofs.Common.{◌≡◌, ◌-◌, ◌≤◌}
 use Rattle.word.specs.Lists.{every}
-use Rattle.undo.specs.Fit.{paper_place_fits, paper_places_fit}
-use Rattle.undo.proofs.Laws.{eighth_small}
+use Rattle.undo.specs.Fit.{paper_place_fits}
 use Rattle.undo.proofs.fit.paper_places_fit.Given as goal
 
 abbrev pub invariant-loop-n : goal.invariant-loop-n

@@ -1,5 +1,4 @@
 -- `undo::fit::ram_place_fits` meets its contract, variant by variant.
-use Rattle.std.proofs.Common.{rules}
 use Rattle.undo.proofs.fit.ram_place_fits.Goals as goal
 
 pub returns-in-RamWord : goal.returns-in-RamWord
