@@ -1,5 +1,5 @@
 -- Safe and ending: each step on hand once.
-use Rattle.std.proofs.Common.{◌-◌, ◌≤◌, rules}
+use Rattle.std.proofs.Common.{◌-◌, ◌≤◌}
 use Rattle.hits.proofs.backward.newest.Given as goal
 
 abbrev pub invariant-loop-k : goal.invariant-loop-k

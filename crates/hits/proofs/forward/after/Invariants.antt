@@ -1,5 +1,5 @@
 -- Safe and ending: each newer record once.
-use Rattle.std.proofs.Common.{◌≤◌, rules}
+use Rattle.std.proofs.Common.{◌≤◌}
 use Rattle.hits.proofs.forward.after.Given as goal
 
 abbrev pub invariant-loop-left : goal.invariant-loop-left

@@ -1,5 +1,5 @@
 -- Safe and ending: each step of the piece once.
-use Rattle.std.proofs.Common.{◌≤◌, rules}
+use Rattle.std.proofs.Common.{◌≤◌}
 use Rattle.hits.proofs.forward.first.Given as goal
 
 abbrev pub invariant-loop-k : goal.invariant-loop-k

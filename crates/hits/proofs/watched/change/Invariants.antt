@@ -1,5 +1,5 @@
 -- Safe and ending: each watch once.
-use Rattle.std.proofs.Common.{◌-◌, ◌≤◌, rules}
+use Rattle.std.proofs.Common.{◌-◌, ◌≤◌}
 use Rattle.hits.proofs.watched.change.Given as goal
 
 abbrev pub invariant-loop-i : goal.invariant-loop-i

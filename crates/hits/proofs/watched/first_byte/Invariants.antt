@@ -1,5 +1,5 @@
 -- Safe and ending: each byte of the word once.
-use Rattle.std.proofs.Common.{◌-◌, ◌≤◌, rules}
+use Rattle.std.proofs.Common.{◌-◌, ◌≤◌}
 use Rattle.hits.proofs.watched.first_byte.Given as goal
 
 abbrev pub invariant-loop-b : goal.invariant-loop-b
