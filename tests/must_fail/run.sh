@@ -33,7 +33,7 @@ kind_of() {
         { refused = sub(/^.*: refused, as it must be/, ""); text = words($0) }
         END {
             if (!refused) print "not refused"
-            else if (text ~ /only by a limit|bound of its own|broke off|given up|resource limit|step limit|ran out|would have made more|came back to a goal/)
+            else if (text ~ /only by a limit|gave up|bound of its own|broke off|given up|resource limit|step limit|ran out|would have made more|came back to a goal/)
                 print "a limit"
             else if (text ~ /only because a proof file names|has no `|not in scope|no such name|arguments? more than|is not a function|takes no argument/)
                 print "a missing name"
@@ -128,6 +128,7 @@ self_test() {
     refused cc_limit "$(by "./p/Answers.antt:9:13: error: \`returns\`: \`cc\` met a bound of its own before the equations had joined \`a\` and \`b\`")"
     refused omega_limit "$(by "./p/Answers.antt:9:13: error: \`fits\`: \`omega\` stopped at a bound of its own: the goal has more than 64 parts")"
     refused search_limit "$(by "./p/Answers.antt:9:13: error: \`fits\`: \`search\` broke off: the call's work took more than 1000 steps")"
+    refused gave_up "$(by "note: src/lib.rt:55:1: it is not proved that what the function ensures holds when it returns; \`search\` gave up at one of its limits")"
     refused limit "refused, as it must be (only by a limit of the prover, which gave no verdict): ./p/Answers.antt:9:13: error: \`fits\`"
     refused name "refused, as it must be (only because a proof file names what the edit took away, so this says little of the contract): ./p/Answers.antt:2:1: error"
     refused scope "$(by "./p/Answers.antt:2:1: error: \`x\` is not in scope")"
@@ -158,7 +159,7 @@ self_test() {
         exit 1
     }
     rm -rf "$root"
-    echo "self-test: eleven edits that show nothing were refused, an edit with no row, a row with no edit and no edit at all too, and four that show a fact let through"
+    echo "self-test: twelve edits that show nothing were refused, an edit with no row, a row with no edit and no edit at all too, and four that show a fact let through"
 }
 
 here=$(dirname "$0")/../..
