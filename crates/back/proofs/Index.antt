@@ -1,7 +1,7 @@
 -- THE MACHINE OF DOCUMENTS 01 AND 02 KEEPS THE LAWS THAT THE INDEX ASKS, so that all that `indexed` proves of the index holds of it.
 use Prim.{tt}
-use Prim.Native.Nat.{ℕ, ◌+◌, ◌*◌, ◌/◌, ◌%◌, ◌^◌, ◌≤◌, ◌<◌}
-use mathlib.Core.Path.{◌≡◌, refl, sym, ap, ◌∙◌}
+use Prim.Native.Nat.{ℕ, ◌*◌, ◌<◌}
+use mathlib.Core.Path.{◌≡◌, refl, ap, ◌∙◌}
 use mathlib.Core.List.{List, [], ◌∷◌}
 use native.Mathlib.Nat.{mod-eq_of_lt}
 use native.Mathlib.Omega.{arith}
@@ -9,7 +9,6 @@ use lib.ListN.{length}
 use Rattle.word.specs.Lists.{Below}
 use Rattle.ring.specs.Slots.{next_slot}
 use Rattle.ring.specs.Machine.{Laws}
-use Rattle.tlb.specs.declared.Row.{Row}
 use Rattle.clock.specs.Tick.{time_of}
 use Rattle.decide.specs.Range.{Within}
 use Rattle.decide.specs.declared.effect.Effect.{Effect}
@@ -31,7 +30,7 @@ use Rattle.indexed.specs.Base.{Under, noted_by, BaseLaws}
 use Rattle.marks.specs.Index.{places_of, noted_in, distance_in, ahead}
 use Rattle.marks.proofs.Clock.{tick_next}
 use Rattle.back.specs.Back.{base, both}
-use Rattle.back.specs.Allowed.{Allowed, Framed}
+use Rattle.back.specs.Allowed.{Framed}
 use Rattle.back.proofs.Law.{laws}
 
 -- ---- the places: those that the record says

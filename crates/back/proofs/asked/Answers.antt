@@ -1,6 +1,4 @@
 -- `back::asked` meets its contract: one of the three answers of `Answers`.
-use borrow.Author.Rules.{rules}
-use borrow.Author.Tests.{not-true, not-false}
 use mathlib.Core.Path.{sym, ◌∙◌}
 use native.Mathlib.Nat.{le_trans}
 use Rattle.back.proofs.Answers.{asked_far, asked_bad, asked_done}
@@ -13,18 +11,19 @@ returns-then-hand-steps c =
 
 pub all_fit-requires : goal.all_fit-requires
 all_fit-requires c =
-    let start = c in
-    let sound = start.requires.1.sound in
-    (sound.place, (le_trans c.if-hand-steps.false sound.most, start.requires.0))
+    let sound = c.requires.ready.sound in
+    record {
+      next_bound = sound.place;
+      k_bound = le_trans c.if-hand-steps.false sound.most;
+      paper_bound = c.requires.paper_bound;
+    }
 
 pub returns-then-not-all_fit : goal.returns-then-not-all_fit
 returns-then-not-all_fit c =
-    let near = c in
-    let a = near.args in
-    asked_bad a.steps a.m a.ram a.paper a.journal.now near.if-hand-steps.false (sym c.all_fit.ensures ∙ c.if-not-all_fit.true)
+    let a = c.args in
+    asked_bad a.steps a.m a.ram a.paper a.journal.now c.if-hand-steps.false (sym c.all_fit.ensures ∙ c.if-not-all_fit.true)
 
 pub returns : goal.returns
 returns c =
-    let near = c in
-    let a = near.args in
-    asked_done a.steps a.m a.ram a.paper a.journal.now near.if-hand-steps.false (sym c.all_fit.ensures ∙ c.if-not-all_fit.false)
+    let a = c.args in
+    asked_done a.steps a.m a.ram a.paper a.journal.now c.if-hand-steps.false (sym c.all_fit.ensures ∙ c.if-not-all_fit.false)

@@ -1,11 +1,7 @@
 -- `back::fitting::all_fit` meets its contract. The invariant is `Checked`: the records passed are well formed, and the machine is where undoing them leads.
-use borrow.Author.Rules.{rules}
 use borrow.Author.Tests.{not-true, not-false}
 use mathlib.Core.Path.{sym}
-use native.Mathlib.Omega.{arith}
-use Prim.Native.Nat.{◌-◌}
-use Rattle.back.specs.Back.{view_in}
-use Rattle.back.proofs.Turns.{Checked, checked_start, checked_bad, checked_more, checked_end}
+use Rattle.back.proofs.Turns.{checked_start, checked_bad, checked_more, checked_end}
 use Rattle.back.proofs.fitting.all_fit.Goals as goal
 
 pub loop-j-init : goal.loop-j-init

@@ -1,11 +1,8 @@
 -- `back::undoing::undo_all` meets its contract. The invariant is `Undoing`: machine, RAM, paper and index are where undoing the records passed leads.
-use borrow.Author.Rules.{rules}
-use mathlib.Core.Path.{◌≡◌, refl, ap, ◌∙◌}
-use native.Mathlib.Omega.{arith}
+use mathlib.Core.Path.{◌≡◌}
 use Prim.Native.Nat.{◌-◌}
-use Rattle.state.specs.declared.machine.Machine.{Machine}
 use Rattle.step.specs.World.{world_in}
-use Rattle.back.proofs.Turns.{Undoing, undoing_start, undoing_tells, undoing_more, undoing_end, side_end}
+use Rattle.back.proofs.Turns.{Undoing}
 use Rattle.back.proofs.undoing.undo_all.Given as goal
 
 abbrev pub invariant-loop-j : goal.invariant-loop-j
