@@ -1,7 +1,6 @@
 -- Safe and ending: each byte once, in a buffer that keeps its length.
 use mathlib.Core.Path.{◌≡◌}
 use Prim.Native.Nat.{◌≤◌, ◌-◌}
-use borrow.Author.Rules.{rules}
 use lib.ListN.{length}
 use Rattle.kept.proofs.lay.Given as goal
 
