@@ -2,7 +2,6 @@
 use mathlib.Core.Path.{ap}
 use borrow.Author.Tests.{eq-eqb, ne_eqb}
 use Rattle.rules.specs.declared.Verdict.{Verdict}
-use borrow.Author.Rules.{rules}
 use Rattle.probe.proofs.keeps.Goals as goal
 
 pub returns-then-image-ne741 : goal.returns-then-image-ne741

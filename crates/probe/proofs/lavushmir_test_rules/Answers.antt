@@ -1,5 +1,4 @@
 -- `probe::lavushmir_test_rules` meets its contract.
-use borrow.Author.Rules.{rules}
 use Rattle.probe.proofs.lavushmir_test_rules.Goals as goal
 
 pub returns-then-keeps : goal.returns-then-keeps
