@@ -94,8 +94,8 @@ module _ (b : Buffers) (budget stop : ℕ) (number : run_number b budget stop �
   roms = roms_in lent
 
   -- what is lent is bytes
-  module _ (image-are : Below 256 b.image) (execution-are : Below 256 lent.execution) (bootstrap-are : Below 256 lent.bootstrap)
-      (ram-are : Below 256 lent.ram) (paper-are : Below 256 lent.paper) where
+  module _ (image_are : Below 256 b.image) (execution_are : Below 256 lent.execution) (bootstrap_are : Below 256 lent.bootstrap)
+      (ram_are : Below 256 lent.ram) (paper_are : Below 256 lent.paper) where
     abbrev FineHere : Config (forward roms) → Type 0
     FineHere = Fine roms (slots_of lent.journal) (length lent.ram) (length lent.paper) (length lent.journal) (length lent.index)
 
@@ -104,7 +104,7 @@ module _ (b : Buffers) (budget stop : ℕ) (number : run_number b budget stop �
         let t = (number_0 b budget stop).0 number in
         let good = t.1.1.1.1.0 in
         record {
-          good = start_good b.image lent.ram lent.paper (length lent.journal) good image-are ram-are paper-are;
+          good = start_good b.image lent.ram lent.paper (length lent.journal) good image_are ram_are paper_are;
           whole = lent_whole lent.execution lent.bootstrap lent.ram t.0 t.1.0;
           ram_long = refl;
           paper_long = refl;
@@ -119,7 +119,7 @@ module _ (b : Buffers) (budget stop : ℕ) (number : run_number b budget stop �
         let t = (number_0 b budget stop).0 number in
         let short = paper_short (length lent.paper) t.1.1.0 in
         run_keeps (forward roms) (slots_of lent.journal) FineHere
-        (fine_on roms (slots_of lent.journal) (length lent.ram) (length lent.paper) (length lent.journal) (length lent.index) execution-are bootstrap-are
+        (fine_on roms (slots_of lent.journal) (length lent.ram) (length lent.paper) (length lent.journal) (length lent.index) execution_are bootstrap_are
         short) budget (not (eqb stop 0)) (config_of roms (machine_of b.image) lent) start
 
     few : slots_of lent.journal < 2 ^ 32
@@ -195,7 +195,7 @@ module _ (b : Buffers) (stop : ℕ) (ram_fits : ram_fits (length b.beside.ram) �
     (good : good_image b.image (length b.beside.paper) (length b.beside.journal) ≡ true)
     (index_fits : index_fits (length b.beside.ram) (length b.beside.index) ≡ true) where
   none_done : run_number b 0 stop ≡ 0
-  none_done = (number_0 b 0 stop).1 (ram-fits, (roms-fit, (paper-fits, (journal-fits, (good, (le-leb 0 1000000 (omega arith), index-fits))))))
+  none_done = (number_0 b 0 stop).1 (ram_fits, (roms_fit, (paper_fits, (journal_fits, (good, (le-leb 0 1000000 (omega arith), index_fits))))))
 
   pub run_none : Below 256 b.image → run_leaves b 0 stop ≡ left_of (Done 0 BudgetSpent) b
   run_none small =

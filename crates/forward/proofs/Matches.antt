@@ -63,8 +63,8 @@ module _ (b : Buffers) (budget stop : ℕ) (number : run_number b budget stop �
       ∙ subst (λ (l : Left). done_run b (steps_of l.answer) 0 ≡ left_of (Done (steps_of l.answer) BudgetSpent) l.buffers) (sym (done_is b budget stop number)) done_just
 
   -- what is lent is bytes
-  module _ (image-are : Below 256 b.image) (execution-are : Below 256 b.beside.execution) (bootstrap-are : Below 256 b.beside.bootstrap)
-      (ram-are : Below 256 b.beside.ram) (paper-are : Below 256 b.beside.paper) where
+  module _ (image_are : Below 256 b.image) (execution_are : Below 256 b.beside.execution) (bootstrap_are : Below 256 b.beside.bootstrap)
+      (ram_are : Below 256 b.beside.ram) (paper_are : Below 256 b.beside.paper) where
     abbrev after : Buffers
     after = (run_leaves b budget stop).buffers
 
@@ -75,16 +75,16 @@ module _ (b : Buffers) (budget stop : ℕ) (number : run_number b budget stop �
     -- what a run leaves, read again, is the world so many steps later
     pub run_later : world_from after ≡ world_later b steps
     run_later =
-        run_read b budget stop number image-are execution-are bootstrap-are ram-are paper-are
+        run_read b budget stop number image_are execution_are bootstrap_are ram_are paper_are
         ∙ subst (λ (l : Left). (ran_of b budget stop).config.state ≡ world_later b (steps_of l.answer)) (sym (done_is b budget stop number)) done_later
 
     -- A RUN FROM WHERE ONE STOPPED BEFORE TWO MATCHES stops there again, and changes nothing
     pub met_again : reason_of (run_leaves b budget stop).answer ≡ 3 → (more stop' : ℕ) → 0 < more → leb more 1000000 ≡ true →
         run_leaves after more stop' ≡ left_of (Done 0 TwoMatches) after
     met_again e more stop' some most =
-        let kept = run_kept b budget stop number image-are execution-are bootstrap-are ram-are paper-are in
+        let kept = run_kept b budget stop number image_are execution_are bootstrap_are ram_are paper_are in
         let meets : halts_later after 0 ≡ true =
         ap (λ (roms : Roms). (forward roms).halts (world_from after)) kept.roms_same
         ∙ ap (λ (w : World). (forward (roms_in b.beside)).halts w) run_later
         ∙ ((run_says b budget stop number).met e).1 in
-        run_met after more stop' (run_again b budget stop number image-are execution-are bootstrap-are ram-are paper-are more stop' most) some meets kept.image_bytes
+        run_met after more stop' (run_again b budget stop number image_are execution_are bootstrap_are ram_are paper_are more stop' most) some meets kept.image_bytes

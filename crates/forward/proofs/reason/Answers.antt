@@ -1,5 +1,4 @@
 -- `forward::reason` meets its contract.
-use borrow.Author.Rules.{rules}
 use Rattle.forward.proofs.reason.Goals as goal
 
 pub returns-in-Budget : goal.returns-in-Budget
