@@ -116,8 +116,8 @@ module _ (b : Buffers) (k : ℕ) (number : back_number b k ≡ 0) where
   near = leb-true k start.hand ((number_0 b k).0 number).1.1.1.1.0
 
   -- what is lent is bytes
-  module _ (image-are : Below 256 b.image) (ram-are : Below 256 b.beside.ram) (paper-are : Below 256 b.beside.paper)
-      (journal-are : Below 256 journal) where
+  module _ (image_are : Below 256 b.image) (ram_are : Below 256 b.beside.ram) (paper_are : Below 256 b.beside.paper)
+      (journal_are : Below 256 journal) where
     abbrev older : World
     older = before n journal start.next (world_from b) k
 
@@ -125,8 +125,8 @@ module _ (b : Buffers) (k : ℕ) (number : back_number b k ≡ 0) where
     older_good =
         let t = (number_0 b k).0 number in
         let s = start_sound in
-        before_good n journal start.next (world_from b) s.room s.place journal-are
-        (start_good b.image b.beside.ram b.beside.paper (length journal) t.1.1.1.0 image-are ram-are paper-are) k
+        before_good n journal start.next (world_from b) s.room s.place journal_are
+        (start_good b.image b.beside.ram b.beside.paper (length journal) t.1.1.1.0 image_are ram_are paper_are) k
         (omega (arith, near, s.most)) t.1.1.1.1.1.0
 
     done_kept : BackKept (done_leaves b k) b
@@ -179,7 +179,7 @@ module _ (b : Buffers) (ram_fits : ram_fits (length b.beside.ram) ≡ true) (pap
   none_done : back_number b 0 ≡ 0
   unfolding all_fit
   none_done =
-      (number_0 b 0).1 (ram-fits, (paper-fits, (journal-fits, (good, (le-leb 0 (machine_of b.image).journal.on_hand (omega arith), (refl, each))))))
+      (number_0 b 0).1 (ram_fits, (paper_fits, (journal_fits, (good, (le-leb 0 (machine_of b.image).journal.on_hand (omega arith), (refl, each))))))
 
   pub back_none : Below 256 b.image → back_leaves b 0 ≡ left_of (Done 0 NoReason) b
   back_none small =

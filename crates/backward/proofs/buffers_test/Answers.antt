@@ -1,8 +1,6 @@
 -- `backward::buffers_test` meets its contract: each way out has the tests that led there.
 use mathlib.Core.Path.{sym, ◌∙◌}
-use borrow.Author.Tests.{not-true, not-false}
 use Rattle.backward.specs.Back.{buffers_test}
-use borrow.Author.Rules.{rules}
 use Rattle.backward.proofs.buffers_test.Goals as goal
 
 pub returns-then-not-ram_fits : goal.returns-then-not-ram_fits
