@@ -11,10 +11,10 @@ use Rattle.ring.specs.Slots.{lowered, records_in}
 use Rattle.ring.specs.Run as ring
 use Rattle.ring.specs.Run.{Ran, Config}
 use Rattle.ring.specs.Back.{undone, undone_side, all_fit}
-use Rattle.ring.specs.Calls as ring-calls
+use Rattle.ring.specs.Calls as ring_calls
 use Rattle.ring.specs.Calls.{Event, ran, took, net}
 use Rattle.ring.proofs.Slots.{by_leb}
-use Rattle.ring.proofs.Back as ring-back
+use Rattle.ring.proofs.Back as ring_back
 use Rattle.ring.proofs.History.{kept_called, fits_all}
 use Rattle.journal.specs.Journal.{slots_of}
 use Rattle.state.specs.Layout.{bytes_of, machine_of}
@@ -86,9 +86,9 @@ module _ (b : Boot) (p : Booted b) (h : Host) (c : Carried b p h) where
     r = ring.run (forward (roms_at b)) n budget (not (eqb stop 0)) here
 
     kept_run : KeptIn b p n r.config (ran r.taken ∷ h.events)
-    unfolding ring-calls.called
+    unfolding ring_calls.called
     kept_run =
-        kept_called (both (roms_at b)) (world_at (reset_to b)) _ (Indexed (base (roms_at b)) (frames b p)) (boot_laws b p) (boot_framed b p) (boot_besides b p) n (ring-calls.run budget (not (eqb stop 0)))
+        kept_called (both (roms_at b)) (world_at (reset_to b)) _ (Indexed (base (roms_at b)) (frames b p)) (boot_laws b p) (boot_framed b p) (boot_besides b p) n (ring_calls.run budget (not (eqb stop 0)))
         (record { config = here; events = h.events }) kept_now
 
     -- the host, if it had these ROMs
@@ -140,10 +140,10 @@ module _ (b : Boot) (p : Booted b) (h : Host) (c : Carried b p h) where
       lower = record { state = older; side = left; ring = lowered n k here.ring }
 
       kept_back : KeptIn b p n lower (took k ∷ h.events)
-      unfolding ring-calls.called
+      unfolding ring_calls.called
       kept_back =
-          rw (ring-back.back_done (both (roms_at b)) n here k near fits_now) at
-          (kept_called (both (roms_at b)) (world_at (reset_to b)) _ (Indexed (base (roms_at b)) (frames b p)) (boot_laws b p) (boot_framed b p) (boot_besides b p) n (ring-calls.back k)
+          rw (ring_back.back_done (both (roms_at b)) n here k near fits_now) at
+          (kept_called (both (roms_at b)) (world_at (reset_to b)) _ (Indexed (base (roms_at b)) (frames b p)) (boot_laws b p) (boot_framed b p) (boot_besides b p) n (ring_calls.back k)
           (record { config = here; events = h.events }) kept_now)
 
       -- no ROM had a part in it
