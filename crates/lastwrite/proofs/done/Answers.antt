@@ -1,5 +1,4 @@
 -- `lastwrite::done` meets its contract.
-use Rattle.std.proofs.Common.{rules}
 use Rattle.lastwrite.proofs.done.Goals as goal
 
 pub returns-in-Nothing : goal.returns-in-Nothing

@@ -1,5 +1,5 @@
 -- `lastwrite::found_by` meets its contract.
-use Rattle.std.proofs.Common.{ℕ, ap, ◌∙◌, rules}
+use Rattle.std.proofs.Common.{ℕ, ap, ◌∙◌}
 use Rattle.seek.specs.Seek.{last_change_of}
 use Rattle.lastwrite.proofs.found_by.Goals as goal
 
@@ -8,8 +8,7 @@ place_of-requires c = c.requires
 
 pub returns : goal.returns
 returns c =
-    let placed = c in
-    let a = placed.args in
+    let a = c.args in
     let mark = a.machine.journal in
     c.last_change.ensures
-    ∙ ap (λ (place : ℕ). last_change_of a.ram.now a.journal.now mark.on_hand mark.next_slot place) placed.place_of.ensures
+    ∙ ap (λ (place : ℕ). last_change_of a.ram.now a.journal.now mark.on_hand mark.next_slot place) c.place_of.ensures

@@ -1,5 +1,5 @@
 -- `lastwrite::put_found` meets its contract.
-use Rattle.std.proofs.Common.{ℕ, List, sym, ap, ◌∙◌, rules}
+use Rattle.std.proofs.Common.{ℕ, List, sym, ap, ◌∙◌}
 use lib.Seq.{sets}
 use Rattle.word.specs.Lists.{flat}
 use Rattle.word.specs.Big.{word_bytes}
@@ -9,18 +9,15 @@ use Rattle.lastwrite.proofs.Answers.{words_long}
 use Rattle.lastwrite.proofs.put_found.Goals as goal
 
 pub answer_words-words-requires : goal.answer_words-words-requires
-answer_words-words-requires c = c.requires.0
+answer_words-words-requires c = c.requires.counted
 
 pub returns : goal.returns
 returns c =
-    let put = c in
-    let words = put in
-    let start = words in
-    let a = start.args in
+    let a = c.args in
     record {
       answer_is = c.done.ensures;
       bytes_is =
-          put.put_words.ensures
-          ∙ ap (λ (ws : List ℕ). sets a.answer.now 0 (flat word_bytes ws)) words.answer_words-words.ensures
-          ∙ sets_whole a.answer.now (flat word_bytes (answer_words a.time a.found)) (words_long a.time a.found ∙ sym start.requires.1);
+          c.put_words.ensures
+          ∙ ap (λ (ws : List ℕ). sets a.answer.now 0 (flat word_bytes ws)) c.answer_words-words.ensures
+          ∙ sets_whole a.answer.now (flat word_bytes (answer_words a.time a.found)) (words_long a.time a.found ∙ sym c.requires.answer_len);
     }
