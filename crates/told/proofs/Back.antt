@@ -10,7 +10,7 @@ use lib.ListN.{length}
 use Rattle.word.specs.Lists.{Below}
 use Rattle.word.proofs.Cond.{both}
 use Rattle.memory.proofs.OneCell.{load_small}
-use Rattle.ring.specs.Slots.{Sound, slot, slot_back}
+use Rattle.ring.specs.Slots.{Sound, slot_back}
 use Rattle.ring.specs.Run.{Config}
 use Rattle.ring.specs.Back.{undone, all_fit, take_back}
 use Rattle.ring.proofs.Slots.{length_slot, slot_at, back_below}

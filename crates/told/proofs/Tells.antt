@@ -37,10 +37,10 @@ module _ (journal : List ℕ) (hand next : ℕ) where
       ap (λ (b : Bool). cond b (held_of journal hand next) [])
       (and_true (le-leb hand (slots_of journal) h.most) (lt-ltb next (slots_of journal) (omega (arith, h.place)))))
       (λ none.
-      let zero-hand : hand ≡ 0 = omega (arith, h.most) in
-      ap (λ (k : ℕ). cond (fits_in journal hand next) (held_of journal k next) []) zero-hand
+      let zero_hand : hand ≡ 0 = omega (arith, h.most) in
+      ap (λ (k : ℕ). cond (fits_in journal hand next) (held_of journal k next) []) zero_hand
       ∙ either (fits_in journal hand next)
-      ∙ ap (λ (k : ℕ). held_of journal k next) (sym zero-hand))
+      ∙ ap (λ (k : ℕ). held_of journal k next) (sym zero_hand))
     where
       either : (b : Bool) → cond b (held_of journal 0 next) [] ≡ []
       either true = refl
