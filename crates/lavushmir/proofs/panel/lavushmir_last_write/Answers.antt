@@ -1,7 +1,6 @@
 -- `lavushmir::panel::lavushmir_last_write` meets its contract.
 use mathlib.Core.Path.{ap, ◌∙◌}
 use Rattle.answer.specs.Answer.{packed_of}
-use borrow.Author.Rules.{rules}
 use Rattle.lavushmir.proofs.panel.lavushmir_last_write.Goals as goal
 
 pub returns : goal.returns

@@ -1,7 +1,6 @@
 -- `lavushmir::panel::lavushmir_reset` meets its contract.
 use mathlib.Core.Path.{ap, ◌∙◌}
 use Rattle.answer.specs.Answer.{packed_of}
-use borrow.Author.Rules.{rules}
 use Rattle.lavushmir.proofs.panel.lavushmir_reset.Goals as goal
 
 pub returns : goal.returns
