@@ -40,7 +40,7 @@ kind_of() {
             else if (text !~ /: (error|it is not proved)/) print "no error"
             else if (text ~ /it is not proved/) print "a search that does not close"
             else if (text ~ /the goal does not follow/) print "a number that fails"
-            else if (text ~ /differ|expected type `|the two types are/) print "two values that differ"
+            else if (text ~ /differ|expected type `|the two types are|one side reads/) print "two values that differ"
             else if (text ~ /as the last argument|no occurrence/) print "an equation that is not there"
             else if (text ~ /`cc`/) print "a congruence that does not close"
             else if (text ~ /`search`|`grind`/) print "a search that does not close"
