@@ -2,9 +2,9 @@
 #![tactic(auto)]
 
 pub mod tables; // info registers, info tlb, info printers
-pub mod cp0; // info cp0
+pub mod cp0_words; // info cp0
 pub mod clocks; // info clocks
 pub mod sizes; // info station
 pub mod paper; // what a printer printed
 pub mod bad; // a line that is no command
-pub mod memory; // x: a unit of memory
+pub mod memory_units; // x: a unit of memory

@@ -43,9 +43,9 @@ fn on_line(unit: Unit) -> u64 {
 
 fn hex(unit: Unit) -> u64 {
     match unit {
-        Unit::Byte => screen::memory::HEX_BYTE,
-        Unit::Half => screen::memory::HEX_HALF,
-        Unit::Word => screen::memory::HEX_WORD,
+        Unit::Byte => screen::memory_units::HEX_BYTE,
+        Unit::Half => screen::memory_units::HEX_HALF,
+        Unit::Word => screen::memory_units::HEX_WORD,
     }
 }
 
@@ -54,9 +54,9 @@ fn shows(look: Look) -> u64 {
     let format = look.format;
     match format {
         Format::Hex => hex(unit),
-        Format::Signed => screen::memory::SIGNED,
-        Format::Unsigned => screen::memory::UNSIGNED,
-        Format::Character => screen::memory::CHARACTER,
+        Format::Signed => screen::memory_units::SIGNED,
+        Format::Unsigned => screen::memory_units::UNSIGNED,
+        Format::Character => screen::memory_units::CHARACTER,
     }
 }
 
@@ -103,8 +103,8 @@ fn next_place(s: Looked, look: Look) -> u64 {
     place
 }
 
-fn valued(s: Looked, look: Look, value: u64) -> screen::memory::Unit {
-    screen::memory::Unit {
+fn valued(s: Looked, look: Look, value: u64) -> screen::memory_units::Unit {
+    screen::memory_units::Unit {
         begins: 1 - is_open(s.place) % 2,
         address: s.address as u64,
         shows: shows(look),
@@ -114,8 +114,8 @@ fn valued(s: Looked, look: Look, value: u64) -> screen::memory::Unit {
 }
 
 // Why nothing can be shown at an address.
-fn told(s: Looked, shows: u64, code: u64) -> screen::memory::Unit {
-    screen::memory::Unit {
+fn told(s: Looked, shows: u64, code: u64) -> screen::memory_units::Unit {
+    screen::memory_units::Unit {
         begins: 1 + is_open(s.place) % 2,
         address: s.address as u64,
         shows,
@@ -124,12 +124,12 @@ fn told(s: Looked, shows: u64, code: u64) -> screen::memory::Unit {
     }
 }
 
-fn shown(s: Looked, look: Look, read: Read) -> screen::memory::Unit {
+fn shown(s: Looked, look: Look, read: Read) -> screen::memory_units::Unit {
     match read {
         Read::Value(value) => valued(s, look, value),
-        Read::Raises(code) => told(s, screen::memory::RAISES, code),
-        Read::Device => told(s, screen::memory::DEVICE, 0),
-        Read::TwoMatch => told(s, screen::memory::TWO_MATCH, 0),
+        Read::Raises(code) => told(s, screen::memory_units::RAISES, code),
+        Read::Device => told(s, screen::memory_units::DEVICE, 0),
+        Read::TwoMatch => told(s, screen::memory_units::TWO_MATCH, 0),
     }
 }
 
@@ -166,7 +166,7 @@ fn read(
 }
 
 fn next(out: &mut [u8], s: Looked, look: Look, read: Read) -> Looked {
-    let at = screen::memory::show(out, s.at, shown(s, look, read));
+    let at = screen::memory_units::show(out, s.at, shown(s, look, read));
     behind(s, look, at, read)
 }
 
@@ -204,7 +204,7 @@ fn all(
     for _k in 0..count {
         s = one(out, s, look, image, execution, bootstrap, ram);
     }
-    screen::memory::end(out, s.at, is_open(s.place))
+    screen::memory_units::end(out, s.at, is_open(s.place))
 }
 
 fn count(look: Look) -> u64 {
@@ -230,5 +230,5 @@ pub fn examine(
     ram: &[u8],
 ) -> usize {
     let at = all(out, count(look), look, image, execution, bootstrap, ram);
-    screen::memory::cut(out, at, is_cut(look))
+    screen::memory_units::cut(out, at, is_cut(look))
 }

@@ -24,7 +24,7 @@ pub fn show(
     match view {
         View::Said(message) => say(out, 0, image, message),
         View::Table(table) => tables::show(out, 0, image, table, lengths.paper as u64 / 8),
-        View::Cp0 => screen::cp0::show(out, 0, image),
+        View::Cp0 => screen::cp0_words::show(out, 0, image),
         View::Clocks => clocks::show(out, 0, image),
         View::Station => sizes::show(out, 0, image, lengths),
         View::Units(look) => examine::examine(out, look, image, execution, bootstrap, ram),
