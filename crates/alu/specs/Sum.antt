@@ -1,17 +1,15 @@
 -- ADD and SUB with their overflow, ADDU and SUBU modulo 2^32, and the comparisons.
-use Rattle.std.specs.Prelude.{ℕ, ◌+◌, ◌%◌, ◌^◌, Bool, cond, ℤ, pos, ◌+ℤ◌, ◌-ℤ◌, int_lt, nat_lt}
+use Rattle.std.specs.Prelude.{ℕ, ◌+◌, ◌%◌, ◌^◌, Bool, cond, ℤ, pos, ◌+ℤ◌, ◌-ℤ◌, int_lt, nat_lt, Option, Some, None}
 use Rattle.word.specs.Number.{signed, bits, extended, fits}
-use Rattle.alu.specs.declared.sum.Added.{Added}
-use Rattle.alu.specs.declared.sum.Added.TheVariants.{Sum, Overflow}
 
--- the word that stands for z, where there is one
-abbrev pub exactly : ℤ → Added
-exactly z = cond (fits (2 ^ 31) z) (Sum (bits 32 z)) Overflow
+-- the word that stands for z, if there is one
+abbrev pub exactly : ℤ → Option ℕ
+exactly z = cond (fits (2 ^ 31) z) (Some (bits 32 z)) None
 
-abbrev pub add_of : ℕ → ℕ → Added
+abbrev pub add_of : ℕ → ℕ → Option ℕ
 add_of x y = exactly (signed 32 x +ℤ signed 32 y)
 
-abbrev pub sub_of : ℕ → ℕ → Added
+abbrev pub sub_of : ℕ → ℕ → Option ℕ
 sub_of x y = exactly (signed 32 x -ℤ signed 32 y)
 
 abbrev pub addu_of : ℕ → ℕ → ℕ
@@ -30,7 +28,7 @@ abbrev pub sltu_of : ℕ → ℕ → ℕ
 sltu_of x y = flag (nat_lt x y)
 
 -- each of the four extends the immediate by its sign, also ADDIU and SLTIU
-abbrev pub addi_of : ℕ → ℕ → Added
+abbrev pub addi_of : ℕ → ℕ → Option ℕ
 addi_of x imm = add_of x (extended 16 imm)
 
 abbrev pub addiu_of : ℕ → ℕ → ℕ

@@ -17,23 +17,23 @@ pub fn ne(x: u32, y: u32) -> bool
 pub fn lez(x: u32) -> bool
     ensures { result ≡ lez_of x }
 {
-    (x == 0) | (0x8000_0000 <= x)
+    x.cast_signed() <= 0
 }
 
 pub fn gtz(x: u32) -> bool
     ensures { result ≡ gtz_of x }
 {
-    (0 < x) & (x < 0x8000_0000)
+    0 < x.cast_signed()
 }
 
 pub fn ltz(x: u32) -> bool
     ensures { result ≡ ltz_of x }
 {
-    0x8000_0000 <= x
+    x.cast_signed() < 0
 }
 
 pub fn gez(x: u32) -> bool
     ensures { result ≡ gez_of x }
 {
-    x < 0x8000_0000
+    0 <= x.cast_signed()
 }

@@ -5,15 +5,13 @@ ghost use Rattle.word.specs.Number.{extended};
 pub fn extend8(byte: u32) -> u32
     ensures { result ≡ extended 8 byte }
 {
-    let low = byte % 0x100;
-    if low < 0x80 { low } else { low + 0xffff_ff00 }
+    i32::from(((byte % 0x100) as u8).cast_signed()).cast_unsigned()
 }
 
 pub fn extend16(half: u32) -> u32
     ensures { result ≡ extended 16 half }
 {
-    let low = half % 0x1_0000;
-    if low < 0x8000 { low } else { low + 0xffff_0000 }
+    i32::from(((half % 0x1_0000) as u16).cast_signed()).cast_unsigned()
 }
 
 pub fn zero8(byte: u32) -> u32

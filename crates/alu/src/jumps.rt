@@ -7,19 +7,19 @@ use crate::extend::extend16;
 pub fn branch(pc: u32, offset: u32) -> u32
     ensures { result ≡ branch_of pc offset }
 {
-    let next = std::num::wrapping_add_u32(pc, 4);
-    std::num::wrapping_add_u32(next, extend16(offset) % 0x4000_0000 * 4)
+    let next = pc.wrapping_add(4);
+    next.wrapping_add(extend16(offset) % 0x4000_0000 * 4)
 }
 
 pub fn jump(pc: u32, index: u32) -> u32
     ensures { result ≡ jump_of pc index }
 {
-    let next = std::num::wrapping_add_u32(pc, 4);
+    let next = pc.wrapping_add(4);
     next / 0x1000_0000 * 0x1000_0000 + index % 0x400_0000 * 4
 }
 
 pub fn link(pc: u32) -> u32
     ensures { result ≡ link_of pc }
 {
-    std::num::wrapping_add_u32(pc, 8)
+    pc.wrapping_add(8)
 }

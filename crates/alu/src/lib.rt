@@ -7,7 +7,6 @@ pub mod shift; // SLL, SRL, SRA, also by a register
 pub mod extend; // a byte, a half or a 16-bit immediate to a word
 pub mod condition; // what BEQ, BNE, BLEZ, BGTZ, BLTZ and BGEZ test
 pub mod jumps; // where branches and jumps go, and the link
-mod sign; // a word as a sign and a size, and back
 pub mod product; // MULT, MULTU
 pub mod quotient; // DIV, DIVU
 pub mod merge; // LWL, LWR, SWL, SWR: a part of a word

@@ -2,8 +2,6 @@
 ghost use Rattle.std.specs.Prelude.{◌≡◌, ◌*◌};
 ghost use Rattle.alu.specs.HiLo.{mult_of, multu_of, split};
 
-use crate::sign::{taken_apart, with_sign64};
-
 #[derive(Clone, Copy)]
 pub struct HiLo {
     pub hi: u32,
@@ -13,22 +11,14 @@ pub struct HiLo {
 pub fn mult(x: u32, y: u32) -> HiLo
     ensures { result ≡ mult_of x y }
 {
-    let a = taken_apart(x);
-    let b = taken_apart(y);
-    let size = product(a.size, b.size);
-    split_word(with_sign64(a.negative != b.negative, size))
+    let product = i64::from(x.cast_signed()) * i64::from(y.cast_signed());
+    split_word(product.cast_unsigned())
 }
 
 pub fn multu(x: u32, y: u32) -> HiLo
     ensures { result ≡ multu_of x y }
 {
-    split_word(product(x, y))
-}
-
-fn product(x: u32, y: u32) -> u64
-    ensures { result ≡ x * y }
-{
-    x as u64 * y as u64
+    split_word(u64::from(x) * u64::from(y))
 }
 
 fn split_word(p: u64) -> HiLo

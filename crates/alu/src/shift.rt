@@ -14,14 +14,8 @@ pub fn srl(x: u32, by: u32) -> u32
     x >> (by % 32)
 }
 
-// A number below 0 is shifted by its complement, which is not.
 pub fn sra(x: u32, by: u32) -> u32
     ensures { result ≡ sra_of x by }
 {
-    let s = by % 32;
-    if x < 0x8000_0000 {
-        x >> s
-    } else {
-        u32::MAX - ((u32::MAX - x) >> s)
-    }
+    (x.cast_signed() >> (by % 32)).cast_unsigned()
 }

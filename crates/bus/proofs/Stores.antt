@@ -20,7 +20,8 @@ use Rattle.bus.specs.Store.{register_write, bus_write_of}
 use Rattle.bus.specs.Stored.{line_stored, InLine}
 use Rattle.bus.specs.declared.read.Bus.{Bus}
 use Rattle.bus.specs.declared.store.Store.{Store}
-use Rattle.bus.specs.declared.store.Store.TheVariants.{Nothing, Timer, Command, Data}
+use Rattle.bus.specs.declared.store.Store.TheVariants.{Timer, Command, Data}
+use Rattle.std.proofs.Common.{Option, Some, None}
 
 pub in_line : (offset word : ℕ) → InLine (bus_write_of offset word)
 unfolding bus_write_of
@@ -32,12 +33,12 @@ in_line offset word =
     picked InLine (eqb offset 0x20) _ _ (λ _. tt)
     (λ _. picked InLine (is_device offset) _ _ (λ _. picked InLine (eqb (line_of offset) 6) _ _ (λ _. register) (λ _. tt)) (λ _. tt))
 
-pub store_keeps : (installed delay room : ℕ) (s : Store) (line : Line) → InLine s → 1 ≤ delay →
+pub store_keeps : (installed delay room : ℕ) (s : Option Store) (line : Line) → InLine s → 1 ≤ delay →
     Keeps installed delay room line → Keeps installed delay room (line_stored installed delay s line)
-store_keeps installed delay room Nothing line h some k = k
-store_keeps installed delay room (Timer word) line h some k = k
-store_keeps installed delay room (Command n word) line h some k = command_keeps installed delay room n line k h word some
-store_keeps installed delay room (Data n word) line h some k = data_keeps installed delay room n line k h word
+store_keeps installed delay room None line h some k = k
+store_keeps installed delay room (Some (Timer word)) line h some k = k
+store_keeps installed delay room (Some (Command n word)) line h some k = command_keeps installed delay room n line k h word some
+store_keeps installed delay room (Some (Data n word)) line h some k = data_keeps installed delay room n line k h word
 
 -- the four registers of a printer that is all 0
 zeros : (p : Printer) (field : ℕ) → absent_keeps p ≡ true → field < 4 → get_or (registers_of p) field 0 ≡ 0

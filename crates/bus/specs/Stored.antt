@@ -7,35 +7,36 @@ use Rattle.printer.specs.declared.Line.{Line}
 use Rattle.printer.specs.Cause.{shown_of}
 use Rattle.printer.specs.Command.{command_of, data_of}
 use Rattle.bus.specs.declared.store.Store.{Store}
-use Rattle.bus.specs.declared.store.Store.TheVariants.{Nothing, Timer, Command, Data}
+use Rattle.bus.specs.declared.store.Store.TheVariants.{Timer, Command, Data}
+use Rattle.std.specs.Prelude.{Option, Some, None}
 
-abbrev pub line_stored : ℕ → ℕ → Store → Line → Line
-line_stored installed delay Nothing line = line
-line_stored installed delay (Timer word) line = line
-line_stored installed delay (Command n word) line = command_of installed delay n word line
-line_stored installed delay (Data n word) line = data_of installed n word line
+abbrev pub line_stored : ℕ → ℕ → Option Store → Line → Line
+line_stored installed delay None line = line
+line_stored installed delay (Some (Timer word)) line = line
+line_stored installed delay (Some (Command n word)) line = command_of installed delay n word line
+line_stored installed delay (Some (Data n word)) line = data_of installed n word line
 
-abbrev pub clock_stored : Store → Clock → Clock
-clock_stored Nothing clock = clock
-clock_stored (Timer word) clock = record { high = clock.high; low = clock.low; timer = word }
-clock_stored (Command n word) clock = clock
-clock_stored (Data n word) clock = clock
+abbrev pub clock_stored : Option Store → Clock → Clock
+clock_stored None clock = clock
+clock_stored (Some (Timer word)) clock = record { high = clock.high; low = clock.low; timer = word }
+clock_stored (Some (Command n word)) clock = clock
+clock_stored (Some (Data n word)) clock = clock
 
-abbrev pub timer_line : Store → ℕ → ℕ
-timer_line Nothing cause = cause
-timer_line (Timer word) cause = with_line 2 false cause
-timer_line (Command n word) cause = cause
-timer_line (Data n word) cause = cause
+abbrev pub timer_line : Option Store → ℕ → ℕ
+timer_line None cause = cause
+timer_line (Some (Timer word)) cause = with_line 2 false cause
+timer_line (Some (Command n word)) cause = cause
+timer_line (Some (Data n word)) cause = cause
 
 -- `pending` is the printers' map after the store
-abbrev pub cause_stored : Store → ℕ → ℕ → ℕ
+abbrev pub cause_stored : Option Store → ℕ → ℕ → ℕ
 cause_stored s pending cause = shown_of pending (timer_line s cause)
 
 -- ---- aids to proofs: nothing that a reader must believe
 
 -- the printer that it names is one of the eight
-abbrev pub InLine : Store → Type 0
-InLine Nothing = Unit {0}
-InLine (Timer word) = Unit {0}
-InLine (Command n word) = n < devices
-InLine (Data n word) = n < devices
+abbrev pub InLine : Option Store → Type 0
+InLine None = Unit {0}
+InLine (Some (Timer word)) = Unit {0}
+InLine (Some (Command n word)) = n < devices
+InLine (Some (Data n word)) = n < devices

@@ -17,6 +17,7 @@ pub struct Bus {
     pub pending: u32,
 }
 
+#[tactic(auto, unfolding(crate::specs::Words::bus_table))]
 fn bus_register(b: Bus, index: u32) -> u32
     requires { index < 20 }
     ensures { result ≡ get_or (bus_table b) index 0 }
@@ -49,6 +50,7 @@ fn printer_register(p: Printer, field: u32) -> u32
     }
 }
 
+#[tactic(auto, unfolding(crate::specs::Words::bus_word_of))]
 pub fn read(b: Bus, printers: [Printer; 8], offset: u32) -> u32
     ensures { result ≡ bus_word_of b printers offset }
 {

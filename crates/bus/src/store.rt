@@ -7,54 +7,48 @@ use crate::offset::{DEVICES, PRINTERS, field, line, number};
 use cp0::interrupt::with_line;
 use printer::cause::shown;
 
+// A store that does something: what it writes, and to which printer.
 #[derive(Clone, Copy)]
 pub enum Store {
-    Nothing,
     Timer(u32),
     Command(usize, u32),
     Data(usize, u32),
 }
 
-fn register_write(n: usize, field: u32, word: u32) -> Store
+fn register_write(n: usize, field: u32, word: u32) -> Option<Store>
     ensures { result ≡ register_write n field word }
 {
-    if field == 1 {
-        return Store::Command(n, word);
+    match field {
+        1 => Some(Store::Command(n, word)),
+        2 => Some(Store::Data(n, word)),
+        _ => None,
     }
-    if field == 2 {
-        return Store::Data(n, word);
-    }
-    Store::Nothing
 }
 
-pub fn write(offset: u32, word: u32) -> Store
+#[tactic(auto, unfolding(crate::specs::Store::bus_write_of))]
+pub fn write(offset: u32, word: u32) -> Option<Store>
     ensures { result ≡ bus_write_of offset word }
 {
     if offset == 0x20 {
-        return Store::Timer(word);
+        return Some(Store::Timer(word));
     }
-    if offset < DEVICES {
-        return Store::Nothing;
-    }
-    if line(offset) != PRINTERS {
-        return Store::Nothing;
+    if offset < DEVICES || line(offset) != PRINTERS {
+        return None;
     }
     register_write(number(offset), field(offset), word)
 }
 
-fn timer_line(s: Store, cause: u32) -> u32
+fn timer_line(s: Option<Store>, cause: u32) -> u32
     ensures { result ≡ timer_line s cause }
 {
     match s {
-        Store::Timer(_) => with_line(cause, 2, false),
-        Store::Command(_, _) => cause,
-        Store::Data(_, _) => cause,
-        Store::Nothing => cause,
+        Some(Store::Timer(_)) => with_line(cause, 2, false),
+        _ => cause,
     }
 }
 
 // `pending` is the map after the store.
-pub fn cause_stored(s: Store, pending: u32, cause: u32) -> u32
+pub fn cause_stored(s: Option<Store>, pending: u32, cause: u32) -> u32
     ensures { result ≡ cause_stored s pending cause }
 {
     shown(pending, timer_line(s, cause))

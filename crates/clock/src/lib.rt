@@ -22,7 +22,7 @@ pub struct Beat {
 pub fn time(c: Clock) -> u64
     ensures { result ≡ time_of c }
 {
-    (c.high as u64) * 4294967296 + c.low as u64
+    u64::from(c.high) * 4294967296 + u64::from(c.low)
 }
 
 // The high word one step later, where `low` is the low word then: it moves on where that one wrapped.
@@ -30,7 +30,7 @@ fn carried(high: u32, low: u32) -> u32
     ensures { result ≡ cond (low == 0) (up 32 high) high }
 {
     if low == 0 {
-        return std::num::wrapping_add_u32(high, 1);
+        return high.wrapping_add(1);
     }
     high
 }
@@ -40,18 +40,18 @@ fn carried(high: u32, low: u32) -> u32
 pub fn ticked(c: Clock) -> Beat
     ensures { result ≡ ticked_of c }
 {
-    let low = std::num::wrapping_add_u32(c.low, 1);
+    let low = c.low.wrapping_add(1);
     Beat {
         clock: Clock {
             high: carried(c.high, low),
-            low: low,
-            timer: std::num::wrapping_sub_u32(c.timer, 1),
+            low,
+            timer: c.timer.wrapping_sub(1),
         },
         rang: c.timer == 0,
     }
 }
 
-// The form that document 01 asks for: lent by reference and moved on in place.
+// Stays: document 01 asks for the clock behind a reference, moved on in place.
 pub fn tick(c: &mut Clock) -> bool
     ensures { (result ≡ (ticked_of c.old).rang) × (c.new ≡ (ticked_of c.old).clock) }
 {
@@ -67,8 +67,5 @@ pub fn tick_of(c: Clock) -> Beat
 {
     let mut k = c;
     let rang = tick(&mut k);
-    Beat {
-        clock: k,
-        rang: rang,
-    }
+    Beat { clock: k, rang }
 }

@@ -1,6 +1,5 @@
 // Exception entry: what becomes of CP0, and where PC goes.
 ghost use Rattle.std.specs.Prelude.{◌≡◌, ◌≤◌};
-ghost use Rattle.word.specs.Number.{between};
 ghost use Rattle.cp0.specs.Entry.{entry_hi_of, bad_v_addr_of, bd_of, cause_of, entered_of, vector_of};
 
 use crate::registers::Cp0;
@@ -27,42 +26,37 @@ const ENTRY_FIELDS: u32 = 0xB000007C;
 const PAGE: u32 = 0xFFFFF000;
 
 // `slot` is whether the exception is in a slot, `epc` the address that the kernel is to go back to.
+#[tactic(auto, unfolding(crate::specs::Entry::entered_of))]
 pub fn entered(c: Cp0, e: Exception, slot: bool, epc: u32) -> Cp0
     ensures { result ≡ entered_of e slot epc c }
 {
     let status = Status { word: c.status };
     let pushed = status.pushed();
     Cp0 {
-        index: c.index,
-        random: c.random,
         entry_hi: entry_hi(e, c.entry_hi),
-        entry_lo: c.entry_lo,
         bad_vaddr: bad_vaddr(e, c.bad_vaddr),
         status: pushed.word,
         cause: cause(e, slot, c.cause),
         epc,
+        ..c
     }
 }
 
-fn between(first: u32, last: u32, code: u32) -> bool
-    ensures { result ≡ between first last code }
-{
-    (first <= code) & (code <= last)
-}
-
+#[tactic(auto, unfolding(crate::specs::Entry::entry_hi_of))]
 fn entry_hi(e: Exception, old: u32) -> u32
     ensures { result ≡ entry_hi_of e old }
 {
-    if between(1, 3, e.code) {
+    if matches!(e.code, 1..=3) {
         return overlaid(PAGE, old, e.address);
     }
     old
 }
 
+#[tactic(auto, unfolding(crate::specs::Entry::bad_v_addr_of))]
 fn bad_vaddr(e: Exception, old: u32) -> u32
     ensures { result ≡ bad_v_addr_of e old }
 {
-    if between(1, 5, e.code) {
+    if matches!(e.code, 1..=5) {
         return e.address;
     }
     old
@@ -77,6 +71,7 @@ fn bd(slot: bool) -> u32
     0
 }
 
+#[tactic(auto, unfolding(crate::specs::Entry::cause_of))]
 fn cause(e: Exception, slot: bool, old: u32) -> u32
     ensures { result ≡ cause_of e slot old }
 {
@@ -92,6 +87,7 @@ fn cause(e: Exception, slot: bool, old: u32) -> u32
     overlaid(ENTRY_FIELDS, old, bd + code)
 }
 
+#[tactic(auto, unfolding(crate::specs::Entry::vector_of))]
 pub fn vector(status: u32, miss: bool) -> u32
     ensures { result ≡ vector_of status miss }
 {

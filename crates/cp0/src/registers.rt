@@ -35,6 +35,7 @@ pub fn read(c: Cp0, register: ControlRegister) -> u32
 }
 
 // MTC0.
+#[tactic(auto, unfolding(crate::specs::Written::written_of))]
 pub fn write(c: Cp0, register: ControlRegister, word: u32) -> Cp0
     ensures { result ≡ written_of register word c }
 {
@@ -51,37 +52,47 @@ fn mask(register: ControlRegister) -> u32
 {
     match register {
         ControlRegister::Index => 0x3F00,
-        ControlRegister::Random => 0,
         ControlRegister::EntryLo => 0xFFFFFF00,
-        ControlRegister::BadVAddr => 0,
         ControlRegister::EntryHi => 0xFFFFFFC0,
         ControlRegister::Status => 0x1740FF3F,
         ControlRegister::Cause => 0x300,
-        ControlRegister::Epc => 0,
+        ControlRegister::Random | ControlRegister::BadVAddr | ControlRegister::Epc => 0,
     }
 }
 
-pub fn with_register(mut c: Cp0, register: ControlRegister, word: u32) -> Cp0
+#[tactic(auto, unfolding(crate::specs::Registers::with_register))]
+pub fn with_register(c: Cp0, register: ControlRegister, word: u32) -> Cp0
     ensures { result ≡ with_register register word c }
 {
     match register {
-        ControlRegister::Index => c.index = word,
-        ControlRegister::Random => c.random = word,
-        ControlRegister::EntryLo => c.entry_lo = word,
-        ControlRegister::BadVAddr => c.bad_vaddr = word,
-        ControlRegister::EntryHi => c.entry_hi = word,
-        ControlRegister::Status => c.status = word,
-        ControlRegister::Cause => c.cause = word,
-        ControlRegister::Epc => c.epc = word,
+        ControlRegister::Index => Cp0 { index: word, ..c },
+        ControlRegister::Random => Cp0 { random: word, ..c },
+        ControlRegister::EntryLo => Cp0 {
+            entry_lo: word,
+            ..c
+        },
+        ControlRegister::BadVAddr => Cp0 {
+            bad_vaddr: word,
+            ..c
+        },
+        ControlRegister::EntryHi => Cp0 {
+            entry_hi: word,
+            ..c
+        },
+        ControlRegister::Status => Cp0 { status: word, ..c },
+        ControlRegister::Cause => Cp0 { cause: word, ..c },
+        ControlRegister::Epc => Cp0 { epc: word, ..c },
     }
-    c
 }
 
 // TLBR loads both.
-pub fn with_entry(mut c: Cp0, high: u32, low: u32) -> Cp0
+#[tactic(auto, unfolding(crate::specs::Registers::with_register))]
+pub fn with_entry(c: Cp0, high: u32, low: u32) -> Cp0
     ensures { result ≡ with_entry high low c }
 {
-    c.entry_hi = high;
-    c.entry_lo = low;
-    c
+    Cp0 {
+        entry_hi: high,
+        entry_lo: low,
+        ..c
+    }
 }

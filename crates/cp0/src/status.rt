@@ -9,6 +9,7 @@ pub struct Status {
 
 impl Status {
     // Exception entry: each stack is pushed, and a 0 comes in as current.
+    #[tactic(auto, unfolding(crate::specs::Word::pushed_of))]
     pub fn pushed(self) -> Status
         ensures { result ≡ pushed_of self }
     {
@@ -16,6 +17,7 @@ impl Status {
     }
 
     // RFE: previous to current and old to previous; old stays.
+    #[tactic(auto, unfolding(crate::specs::Word::popped_of))]
     pub fn popped(self) -> Status
         ensures { result ≡ popped_of self }
     {

@@ -1,4 +1,6 @@
 pub mod Each
+pub mod All
+pub mod Made
 pub mod Places
 pub mod Passed
 pub mod Ending

@@ -6,8 +6,10 @@ ghost use Rattle.word.specs.Map.{with_bit};
 
 use word::map::with_bit;
 
+pub mod writes;
+
 // A choice between two answers, as `cond` makes it.
-pub fn pick(test: bool, yes: bool, no: bool) -> bool
+pub fn pick<T: Copy>(test: bool, yes: T, no: T) -> T
     ensures { result ≡ cond test yes no }
 {
     if test { yes } else { no }

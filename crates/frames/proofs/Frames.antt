@@ -5,8 +5,7 @@ use native.Mathlib.Decide.{ℕ_discrete}
 use Rattle.frames.specs.OnHand.{Touch, changes}
 use Rattle.frames.specs.Afresh.{Index}
 use Rattle.frames.specs.Keep.{Kept, with, is_at, replace, replace_all, mark, mark_all}
-use Rattle.frames.specs.declared.Entry.{Entry}
-use Rattle.frames.specs.declared.Entry.TheVariants.{At}
+use Rattle.std.proofs.Common.{Option, Some, None}
 
 -- of every place that a record keeps
 abbrev pub Each : (Kept → Type 0) → List Kept → Type 0
@@ -16,14 +15,14 @@ Each P (k ∷ ks) = P k × Each P ks
 abbrev pub touched : List Kept → List Touch
 touched ks = map (λ (k : Kept). k.touch) ks
 
-module _ (ix : Index) (f : ℕ) (e : Entry) where
+module _ (ix : Index) (f : ℕ) (e : Option ℕ) where
   pub with_same : with ix f e f ≡ e
   with_same = ap (λ (b : Bool). cond b e (ix f)) (eq-eqb f f refl)
 
   pub with_other : (g : ℕ) → (f ≡ g → ⊥) → with ix f e g ≡ ix g
   with_other g other = ap (λ (b : Bool). cond b e (ix g)) (ne_eqb f g other)
 
-module _ (clock : ℕ) (ix : Index) (f : ℕ) (e : Entry) where
+module _ (clock : ℕ) (ix : Index) (f : ℕ) (e : Option ℕ) where
   pub replace_same : is_at clock (ix f) ≡ true → replace clock f e ix f ≡ e
   replace_same h = ap (λ (b : Bool). cond b (with ix f e) ix f) h ∙ with_same ix f e
 
@@ -45,7 +44,7 @@ module _ (clock : ℕ) (ix : Index) (f : ℕ) (e : Entry) where
         | no q ↦ replace_other g q
       ]
 
-module _ (clock : ℕ) (e : Kept → Entry) where
+module _ (clock : ℕ) (e : Kept → Option ℕ) where
   pub all_stays : (ks : List Kept) (ix : Index) (g : ℕ) → is_at clock (ix g) ≡ false → replace_all clock e ks ix g ≡ ix g
   all_stays [] ix g h = refl
   all_stays (k ∷ ks) ix g h =
@@ -53,7 +52,7 @@ module _ (clock : ℕ) (e : Kept → Entry) where
       all_stays ks (replace clock k.touch.frame (e k) ix) g (ap (is_at clock) here ∙ h) ∙ here
 
   -- an entry that names the step goes, if the step changed the frame
-  pub all_goes : (ks : List Kept) (ix : Index) (g : ℕ) (x : Entry) → is_at clock (ix g) ≡ true → changes (touched ks) g ≡ true →
+  pub all_goes : (ks : List Kept) (ix : Index) (g : ℕ) (x : Option ℕ) → is_at clock (ix g) ≡ true → changes (touched ks) g ≡ true →
       Each (λ k. k.touch.frame ≡ g → e k ≡ x) ks → is_at clock x ≡ false → replace_all clock e ks ix g ≡ x
   all_goes [] ix g x here c each gone = let z : ◌≡◌ {A = ℕ} 0 1 = cc in absurd (omega arith)
   all_goes (k ∷ ks) ix g x here c each gone =
@@ -71,21 +70,21 @@ module _ (clock : ℕ) (e : Kept → Entry) where
       ]
 
 module _ (clock : ℕ) where
-  mark_at : (t : Touch) (ix : Index) (g : ℕ) → mark clock t ix g ≡ cond (t.changed && eqb t.frame g) (At clock) (ix g)
+  mark_at : (t : Touch) (ix : Index) (g : ℕ) → mark clock t ix g ≡ cond (t.changed && eqb t.frame g) (Some clock) (ix g)
   mark_at t ix g = go t.changed
     where
-      go : (b : Bool) → cond b (with ix t.frame (At clock)) ix g ≡ cond (b && eqb t.frame g) (At clock) (ix g)
+      go : (b : Bool) → cond b (with ix t.frame (Some clock)) ix g ≡ cond (b && eqb t.frame g) (Some clock) (ix g)
       go true = refl
       go false = refl
 
-  pub mark_all_lem : (ts : List Touch) (ix : Index) (g : ℕ) → mark_all clock ts ix g ≡ cond (changes ts g) (At clock) (ix g)
+  pub mark_all_lem : (ts : List Touch) (ix : Index) (g : ℕ) → mark_all clock ts ix g ≡ cond (changes ts g) (Some clock) (ix g)
   mark_all_lem [] ix g = refl
   mark_all_lem (t ∷ ts) ix g =
       mark_all_lem ts (mark clock t ix) g
-      ∙ ap (λ (x : Entry). cond (changes ts g) (At clock) x) (mark_at t ix g)
+      ∙ ap (λ (x : Option ℕ). cond (changes ts g) (Some clock) x) (mark_at t ix g)
       ∙ go (changes ts g) (t.changed && eqb t.frame g)
     where
-      go : (a b : Bool) → cond a (At clock) (cond b (At clock) (ix g)) ≡ cond (b || a) (At clock) (ix g)
+      go : (a b : Bool) → cond a (Some clock) (cond b (Some clock) (ix g)) ≡ cond (b || a) (Some clock) (ix g)
       go true true = refl
       go true false = refl
       go false true = refl

@@ -14,16 +14,15 @@ use Rattle.frames.specs.OnHand.{Touch, Event, ran, took, on_hand}
 use Rattle.frames.specs.Afresh.{Index, index_of}
 use Rattle.frames.specs.Keep.{with, Kept, up_to, distance, restored, is_at, replace, replace_all, mark, mark_all, Ledger, dropped, keep, pushed, popped, ledger}
 use Rattle.frames.specs.Bytes.{whole, entry_words, entry_bytes, index_bytes, entry_at, put_entry, replace_in, mark_in, replace_all_in, mark_all_in, LedgerIn, dropped_in, keep_in, pushed_in, popped_in, ledger_in, Inside, AllInside}
-use Rattle.frames.specs.declared.Entry.{Entry}
-use Rattle.frames.specs.declared.Entry.TheVariants.{Nothing, At}
+use Rattle.std.proofs.Common.{Option, Some, None}
 use Rattle.frames.proofs.Newest.{newest, newest_below, entry_back, index_newest}
 use Rattle.frames.proofs.Frames.{with_same, with_other}
 use Rattle.frames.proofs.Invariant.{sound, kept_is_afresh}
 
 -- a clock of 64 bits
-abbrev pub Fits : Entry → Type 0
-Fits Nothing = Unit
-Fits (At c) = c < 2 ^ 64
+abbrev pub Fits : Option ℕ → Type 0
+Fits None = Unit
+Fits (Some c) = c < 2 ^ 64
 
 -- ---- lists
 
@@ -43,38 +42,38 @@ module _ {A : Type 0} (k : ℕ) (g : A → List ℕ) (size : (x : A) → length 
       ∙ sets_right (g x) (flat g xs) (g v) (k * i)
       ∙ ap (λ (l : List ℕ). g x ++ l) (flat_set xs i v (omega arith))
 
-sixteen : (e : Entry) → length (entry_bytes e) ≡ 16
-sixteen Nothing = refl
-sixteen (At c) = refl
+sixteen : (e : Option ℕ) → length (entry_bytes e) ≡ 16
+sixteen None = refl
+sixteen (Some c) = refl
 
 pub index_long : (frames : ℕ) (ix : Index) → length (index_bytes frames ix) ≡ 16 * frames
 index_long frames ix = length_flat 16 entry_bytes sixteen (tabulate frames ix) ∙ ap (λ (n : ℕ). 16 * n) (length_tabulate frames ix)
 
 -- ---- an entry put and read
 
-tabulate_with : (frames : ℕ) (ix : Index) (f : ℕ) (e : Entry) → f < frames → set (tabulate frames ix) f e ≡ tabulate frames (with ix f e)
+tabulate_with : (frames : ℕ) (ix : Index) (f : ℕ) (e : Option ℕ) → f < frames → set (tabulate frames ix) f e ≡ tabulate frames (with ix f e)
 tabulate_with frames ix f e h =
-    ext_get_or Nothing (set (tabulate frames ix) f e) (tabulate frames (with ix f e))
+    ext_get_or None (set (tabulate frames ix) f e) (tabulate frames (with ix f e))
     (length-set (tabulate frames ix) f e ∙ length_tabulate frames ix ∙ sym (length_tabulate frames (with ix f e)))
     (λ i l.
     let low : i < frames = omega (arith, length-set (tabulate frames ix) f e, length_tabulate frames ix) in
-    at i low ∙ sym (get_d_tabulate frames (with ix f e) i Nothing low))
+    at i low ∙ sym (get_d_tabulate frames (with ix f e) i None low))
   where
-    at : (i : ℕ) → i < frames → get_or (set (tabulate frames ix) f e) i Nothing ≡ with ix f e i
+    at : (i : ℕ) → i < frames → get_or (set (tabulate frames ix) f e) i None ≡ with ix f e i
     at i low =
         elim (ℕ_discrete f i) [
           | yes q ↦
-              ap (λ (j : ℕ). get_or (set (tabulate frames ix) f e) j Nothing) (sym q)
-              ∙ get_or-set_same (tabulate frames ix) f e Nothing (rw (length_tabulate frames ix) h)
+              ap (λ (j : ℕ). get_or (set (tabulate frames ix) f e) j None) (sym q)
+              ∙ get_or-set_same (tabulate frames ix) f e None (rw (length_tabulate frames ix) h)
               ∙ sym (with_same ix f e)
               ∙ ap (with ix f e) q
           | no q ↦
-              get_or-set_other (tabulate frames ix) f i e Nothing (λ s. q (sym s))
-              ∙ get_d_tabulate frames ix i Nothing low
+              get_or-set_other (tabulate frames ix) f i e None (λ s. q (sym s))
+              ∙ get_d_tabulate frames ix i None low
               ∙ sym (with_other ix f e i q)
         ]
 
-pub put_entry_lem : (frames : ℕ) (ix : Index) (f : ℕ) (e : Entry) → f < frames → put_entry (index_bytes frames ix) f e ≡ index_bytes frames (with ix f e)
+pub put_entry_lem : (frames : ℕ) (ix : Index) (f : ℕ) (e : Option ℕ) → f < frames → put_entry (index_bytes frames ix) f e ≡ index_bytes frames (with ix f e)
 put_entry_lem frames ix f e h =
     flat_set 16 entry_bytes sixteen (tabulate frames ix) f e (rw (length_tabulate frames ix) h)
     ∙ ap (flat entry_bytes) (tabulate_with frames ix f e h)
@@ -84,8 +83,8 @@ module _ (frames : ℕ) (ix : Index) (f : ℕ) (inside : f < frames) where
   byte_of : (i p : ℕ) → i < 16 → p ≡ 16 * f + i → get_or (index_bytes frames ix) p 0 ≡ get_or (entry_bytes (ix f)) i 0
   byte_of i p h e =
       ap (λ (n : ℕ). get_or (index_bytes frames ix) n 0) e
-      ∙ flat_at 16 entry_bytes sixteen (tabulate frames ix) Nothing f i (rw (length_tabulate frames ix) inside) h
-      ∙ ap (λ (x : Entry). get_or (entry_bytes x) i 0) (get_d_tabulate frames ix f Nothing inside)
+      ∙ flat_at 16 entry_bytes sixteen (tabulate frames ix) None f i (rw (length_tabulate frames ix) inside) h
+      ∙ ap (λ (x : Option ℕ). get_or (entry_bytes x) i 0) (get_d_tabulate frames ix f None inside)
 
   word_of : (j p : ℕ) → j + 4 ≤ 16 → p ≡ 16 * f + j → word_at (index_bytes frames ix) p ≡ word_at (entry_bytes (ix f)) j
   unfolding word_at
@@ -98,18 +97,18 @@ module _ (frames : ℕ) (ix : Index) (f : ℕ) (inside : f < frames) where
       )
 
 -- an entry from its four words
-abbrev spoken : ℕ → ℕ → ℕ → Entry
-spoken first high low = cond (eqb first 1) (At (high * 2 ^ 32 + low)) Nothing
+abbrev spoken : ℕ → ℕ → ℕ → Option ℕ
+spoken first high low = cond (eqb first 1) (Some (high * 2 ^ 32 + low)) None
 
-spoken_entry : (e : Entry) → Fits e → spoken (word_at (entry_bytes e) 0) (word_at (entry_bytes e) 4) (word_at (entry_bytes e) 8) ≡ e
+spoken_entry : (e : Option ℕ) → Fits e → spoken (word_at (entry_bytes e) 0) (word_at (entry_bytes e) 4) (word_at (entry_bytes e) 8) ≡ e
 unfolding word_at
-spoken_entry Nothing fits = refl
-spoken_entry (At c) fits =
-    let high = read_written (entry_words (At c)) 1 (lit< tt) (omega arith) in
-    let low = read_written (entry_words (At c)) 2 (lit< tt) (omega arith) in
+spoken_entry None fits = refl
+spoken_entry (Some c) fits =
+    let high = read_written (entry_words (Some c)) 1 (lit< tt) (omega arith) in
+    let low = read_written (entry_words (Some c)) 2 (lit< tt) (omega arith) in
     let e : c / 2 ^ 32 * 2 ^ 32 + c % 2 ^ 32 ≡ c = omega arith in
-    ap At
-    (ap (λ (h : ℕ). h * 2 ^ 32 + word_at (entry_bytes (At c)) 8) high
+    ap Some
+    (ap (λ (h : ℕ). h * 2 ^ 32 + word_at (entry_bytes (Some c)) 8) high
     ∙ ap (λ (l : ℕ). c / 2 ^ 32 * 2 ^ 32 + l) low
     ∙ e)
 
@@ -133,14 +132,14 @@ fits_afresh clock steps f small few =
 
 -- ---- the updates
 
-fits_with : (ix : Index) (f : ℕ) (e : Entry) → ((g : ℕ) → Fits (ix g)) → Fits e → (g : ℕ) → Fits (with ix f e g)
+fits_with : (ix : Index) (f : ℕ) (e : Option ℕ) → ((g : ℕ) → Fits (ix g)) → Fits e → (g : ℕ) → Fits (with ix f e g)
 fits_with ix f e all fits g = go (eqb f g)
   where
     go : (b : Bool) → Fits (cond b e (ix g))
     go true = fits
     go false = all g
 
-fits_replace : (clock : ℕ) (ix : Index) (f : ℕ) (e : Entry) → ((g : ℕ) → Fits (ix g)) → Fits e → (g : ℕ) → Fits (replace clock f e ix g)
+fits_replace : (clock : ℕ) (ix : Index) (f : ℕ) (e : Option ℕ) → ((g : ℕ) → Fits (ix g)) → Fits e → (g : ℕ) → Fits (replace clock f e ix g)
 fits_replace clock ix f e all fits g = go (is_at clock (ix f))
   where
     go : (b : Bool) → Fits (cond b (with ix f e) ix g)
@@ -150,15 +149,15 @@ fits_replace clock ix f e all fits g = go (is_at clock (ix f))
 fits_mark : (clock : ℕ) (ix : Index) (t : Touch) → ((g : ℕ) → Fits (ix g)) → clock < 2 ^ 64 → (g : ℕ) → Fits (mark clock t ix g)
 fits_mark clock ix t all small g = go t.changed
   where
-    go : (b : Bool) → Fits (cond b (with ix t.frame (At clock)) ix g)
-    go true = fits_with ix t.frame (At clock) all small g
+    go : (b : Bool) → Fits (cond b (with ix t.frame (Some clock)) ix g)
+    go true = fits_with ix t.frame (Some clock) all small g
     go false = all g
 
 module _ (frames : ℕ) where
-  pub replace_bytes : (clock : ℕ) (ix : Index) (f : ℕ) (e : Entry) → f < frames → Fits (ix f) →
+  pub replace_bytes : (clock : ℕ) (ix : Index) (f : ℕ) (e : Option ℕ) → f < frames → Fits (ix f) →
       replace_in clock f e (index_bytes frames ix) ≡ index_bytes frames (replace clock f e ix)
   replace_bytes clock ix f e h fits =
-      ap (λ (x : Entry). cond (is_at clock x) (put_entry (index_bytes frames ix) f e) (index_bytes frames ix)) (read_entry frames ix f h fits)
+      ap (λ (x : Option ℕ). cond (is_at clock x) (put_entry (index_bytes frames ix) f e) (index_bytes frames ix)) (read_entry frames ix f h fits)
       ∙ go (is_at clock (ix f))
     where
       go : (b : Bool) → cond b (put_entry (index_bytes frames ix) f e) (index_bytes frames ix) ≡ index_bytes frames (cond b (with ix f e) ix)
@@ -169,8 +168,8 @@ module _ (frames : ℕ) where
       mark_in clock t.frame t.changed (index_bytes frames ix) ≡ index_bytes frames (mark clock t ix)
   mark_bytes clock ix t h = go t.changed
     where
-      go : (b : Bool) → cond b (put_entry (index_bytes frames ix) t.frame (At clock)) (index_bytes frames ix) ≡ index_bytes frames (cond b (with ix t.frame (At clock)) ix)
-      go true = put_entry_lem frames ix t.frame (At clock) h
+      go : (b : Bool) → cond b (put_entry (index_bytes frames ix) t.frame (Some clock)) (index_bytes frames ix) ≡ index_bytes frames (cond b (with ix t.frame (Some clock)) ix)
+      go true = put_entry_lem frames ix t.frame (Some clock) h
       go false = refl
 
   -- all places that a record keeps are inside
@@ -182,14 +181,14 @@ module _ (frames : ℕ) where
   AllWithin [] = Unit
   AllWithin (r ∷ rs) = Within r × AllWithin rs
 
-  pub replace_all_bytes : (clock : ℕ) (e : Kept → Entry) → ((k : Kept) → Fits (e k)) → (ks : List Kept) (ix : Index) → Within ks → ((g : ℕ) → Fits (ix g)) →
+  pub replace_all_bytes : (clock : ℕ) (e : Kept → Option ℕ) → ((k : Kept) → Fits (e k)) → (ks : List Kept) (ix : Index) → Within ks → ((g : ℕ) → Fits (ix g)) →
       replace_all_in clock e ks (index_bytes frames ix) ≡ index_bytes frames (replace_all clock e ks ix)
   replace_all_bytes clock e es [] ix inside all = refl
   replace_all_bytes clock e es (k ∷ ks) ix inside all =
       ap (replace_all_in clock e ks) (replace_bytes clock ix k.touch.frame (e k) inside.0 (all k.touch.frame))
       ∙ replace_all_bytes clock e es ks (replace clock k.touch.frame (e k) ix) inside.1 (fits_replace clock ix k.touch.frame (e k) all (es k))
 
-  pub fits_replace_all : (clock : ℕ) (e : Kept → Entry) → ((k : Kept) → Fits (e k)) → (ks : List Kept) (ix : Index) → ((g : ℕ) → Fits (ix g)) → (g : ℕ) → Fits (replace_all clock e ks ix g)
+  pub fits_replace_all : (clock : ℕ) (e : Kept → Option ℕ) → ((k : Kept) → Fits (e k)) → (ks : List Kept) (ix : Index) → ((g : ℕ) → Fits (ix g)) → (g : ℕ) → Fits (replace_all clock e ks ix g)
   fits_replace_all clock e es [] ix all = all
   fits_replace_all clock e es (k ∷ ks) ix all =
       fits_replace_all clock e es ks (replace clock k.touch.frame (e k) ix) (fits_replace clock ix k.touch.frame (e k) all (es k))
@@ -212,7 +211,7 @@ module _ (frames : ℕ) where
     pub fits : (g : ℕ) → Fits (l.index g)
     pub inside : AllWithin l.records
 
-  nothing_fits : (k : Kept) → Fits Nothing
+  nothing_fits : (k : Kept) → Fits None
   nothing_fits k = tt
 
   within_at : (rs : List (List Kept)) (i : ℕ) → AllWithin rs → Within (get_or rs i [])
@@ -241,16 +240,16 @@ module _ (frames : ℕ) where
     drops = go (ltb m (length l.records))
       where
         go : (b : Bool) →
-            cond b (replace_all_in (slot_back whole l.clock m) (λ k. Nothing) (get_or l.records m []) (index_bytes frames l.index)) (index_bytes frames l.index)
-            ≡ index_bytes frames (cond b (replace_all (slot_back whole l.clock m) (λ k. Nothing) (get_or l.records m []) l.index) l.index)
-        go true = replace_all_bytes (slot_back whole l.clock m) (λ k. Nothing) nothing_fits (get_or l.records m []) l.index (within_at l.records m inside) fits
+            cond b (replace_all_in (slot_back whole l.clock m) (λ k. None) (get_or l.records m []) (index_bytes frames l.index)) (index_bytes frames l.index)
+            ≡ index_bytes frames (cond b (replace_all (slot_back whole l.clock m) (λ k. None) (get_or l.records m []) l.index) l.index)
+        go true = replace_all_bytes (slot_back whole l.clock m) (λ k. None) nothing_fits (get_or l.records m []) l.index (within_at l.records m inside) fits
         go false = refl
 
     fits_dropped : (g : ℕ) → Fits (dropped whole m l g)
     fits_dropped g = go (ltb m (length l.records))
       where
-        go : (b : Bool) → Fits (cond b (replace_all (slot_back whole l.clock m) (λ k. Nothing) (get_or l.records m []) l.index) l.index g)
-        go true = fits_replace_all (slot_back whole l.clock m) (λ k. Nothing) nothing_fits (get_or l.records m []) l.index fits g
+        go : (b : Bool) → Fits (cond b (replace_all (slot_back whole l.clock m) (λ k. None) (get_or l.records m []) l.index) l.index g)
+        go true = fits_replace_all (slot_back whole l.clock m) (λ k. None) nothing_fits (get_or l.records m []) l.index fits g
         go false = fits g
 
     keeps : (clock h : ℕ) (ts : List Touch) → Inside frames ts → map (keep_in clock h (index_bytes frames (dropped whole m l))) ts ≡ map (keep whole clock h (dropped whole m l)) ts
@@ -282,7 +281,7 @@ module _ (frames : ℕ) where
   fits_restored : (clock h d : ℕ) → clock < whole → h ≤ whole → Fits (restored whole clock h d)
   fits_restored clock h d small few = go (ltb 0 d) (ltb d h) refl
     where
-      go : (x y : Bool) → ltb d h ≡ y → Fits (cond (x && y) (At (slot_back whole clock d)) Nothing)
+      go : (x y : Bool) → ltb d h ≡ y → Fits (cond (x && y) (Some (slot_back whole clock d)) None)
       go true true e = back_below whole clock d small (omega (arith, ltb-true d h e))
       go true false e = tt
       go false y e = tt
@@ -295,7 +294,7 @@ module _ (frames : ℕ) where
       go : (rs : List (List Kept)) → length rs ≤ n → AllWithin rs → Is (popped_in rs (of l.clock l.records l.index)) (popped whole rs l)
       go [] m i = record { clock = refl; records = refl; bytes = refl; fits = h.fits; inside = h.inside }
       go (r ∷ older) m i =
-          let e : Kept → Entry = λ k. restored whole l.clock (suc (length older)) k.saved in
+          let e : Kept → Option ℕ = λ k. restored whole l.clock (suc (length older)) k.saved in
           let es : (k : Kept) → Fits (restored whole l.clock (suc (length older)) k.saved) =
           λ k. fits_restored l.clock (suc (length older)) k.saved small (omega arith) in
           record {
@@ -306,14 +305,14 @@ module _ (frames : ℕ) where
             inside = i.1;
           }
 
-  pub zeros : (n : ℕ) → replicate (16 * n) 0 ≡ index_bytes n (λ f. Nothing)
+  pub zeros : (n : ℕ) → replicate (16 * n) 0 ≡ index_bytes n (λ f. None)
   zeros zero = refl
   zeros (suc n) =
       let more : 16 * suc n ≡ 16 * n + 16 = omega arith in
       ap (λ (k : ℕ). replicate k 0) more
       ∙ sym (replicate-append-replicate (16 * n) 16 0)
       ∙ ap (λ (l : List ℕ). l ++ replicate 16 0) (zeros n)
-      ∙ sym (flat_append entry_bytes (tabulate n (λ f. Nothing)) (Nothing ∷ []))
+      ∙ sym (flat_append entry_bytes (tabulate n (λ f. None)) (None ∷ []))
 
   module _ (n clock : ℕ) (few : n ≤ whole) (small : clock < whole) where
     pub is_after : (events : List Event) → AllInside frames events → Is (ledger_in frames n clock events) (ledger whole n clock events)

@@ -7,8 +7,7 @@ use Rattle.ring.proofs.Slots.{by_leb, next_below, back_below}
 use Rattle.frames.specs.OnHand.{Touch, changes, Event, ran, took, OnHand, stepped, less_one, on_hand}
 use Rattle.frames.specs.Afresh.{Index, index_of}
 use Rattle.frames.specs.Keep.{up_to, distance, restored, is_at, Kept, forget_all, give_back_all, mark_all, Ledger, dropped, keep, pushed, popped, ledger}
-use Rattle.frames.specs.declared.Entry.{Entry}
-use Rattle.frames.specs.declared.Entry.TheVariants.{Nothing, At}
+use Rattle.std.proofs.Common.{Option, Some, None}
 use Rattle.frames.proofs.Clocks.{back_none, next_back}
 use Rattle.frames.proofs.Newest.{newest, later, entry_back, entry_later, later_below, later_not_first, up_to_in, up_to_out, up_to_below, up_to_up_to, newest_below, newest_take, newest_changes, index_newest, distance_newest, not_at, is_at_lem, restored_newest}
 use Rattle.frames.proofs.Frames.{Each, touched, all_stays, all_goes, mark_all_lem}
@@ -81,7 +80,7 @@ module _ (turn m : ℕ) (l : Ledger) (fits : suc m ≤ turn) (h : Sound turn (su
       ap (λ (s : List Touch). changes s f) (sym (get_or-map touched l.records m []))
       ∙ newest_changes (steps_of l.records) f m e
 
-  each_nothing : (ks : List Kept) (g : ℕ) → Each (λ k. k.touch.frame ≡ g → ◌≡◌ {A = Entry} Nothing Nothing) ks
+  each_nothing : (ks : List Kept) (g : ℕ) → Each (λ k. k.touch.frame ≡ g → ◌≡◌ {A = Option ℕ} None None) ks
   each_nothing [] g = tt
   each_nothing (k ∷ ks) g = ((λ e. refl), each_nothing ks g)
 
@@ -89,12 +88,12 @@ module _ (turn m : ℕ) (l : Ledger) (fits : suc m ≤ turn) (h : Sound turn (su
   forgotten f =
       elim (ℕ_discrete (place f) (suc m)) [
         | yes q ↦
-            all_goes (slot_back turn l.clock m) (λ k. Nothing) oldest l.index f Nothing
+            all_goes (slot_back turn l.clock m) (λ k. None) oldest l.index f None
             (ap (is_at (slot_back turn l.clock m)) (by_place f ∙ ap (entry_back turn l.clock) q) ∙ is_at_lem turn l.clock h.small m)
             (oldest_changes f q) (each_nothing oldest f) refl
             ∙ ap (entry_back turn l.clock) (sym (up_to_out m (place f) (omega arith)))
         | no q ↦
-            all_stays (slot_back turn l.clock m) (λ k. Nothing) oldest l.index f
+            all_stays (slot_back turn l.clock m) (λ k. None) oldest l.index f
             (ap (is_at (slot_back turn l.clock m)) (by_place f)
             ∙ not_at turn l.clock h.small (place f) m (omega (arith, place_below f)) (omega arith) q)
             ∙ by_place f
@@ -162,7 +161,7 @@ module _ (turn m : ℕ) (l : Ledger) (fits : suc m ≤ turn) (h : Sound turn (su
       ≡ index_of turn next (steps_of (map (keep turn next (length below) (dropped turn m l)) ts ∷ below)) f
   marked ts f =
       mark_all_lem next ts (dropped turn m l) f
-      ∙ ap (λ (e : Entry). cond (changes ts f) (At next) e)
+      ∙ ap (λ (e : Option ℕ). cond (changes ts f) (Some next) e)
       (dropped_newest f
       ∙ sym (index_newest turn l.clock (steps_of below) f h.small (omega (arith, steps_length below, below_few)))
       ∙ ap (λ (c : ℕ). index_of turn c (steps_of below) f) (sym (next_back turn l.clock h.small)))
@@ -209,7 +208,7 @@ module _ (turn n clock : ℕ) (ix : Index) (r : List Kept) (older : List (List K
     abbrev before : ℕ
     before = slot_back turn clock 1
 
-    abbrev old : ℕ → Entry
+    abbrev old : ℕ → Option ℕ
     old f = index_of turn before (steps_of older) f
 
     old_newest : (f : ℕ) → old f ≡ entry_back turn before (newest (steps_of older) f)
@@ -242,11 +241,11 @@ module _ (turn n clock : ℕ) (ix : Index) (r : List Kept) (older : List (List K
       where
         go : (b : Bool) → changes (touched r) f ≡ b → give_back_all turn clock (suc (length older)) r ix f ≡ old f
         go true c =
-            let named : ix f ≡ At clock = h.same f ∙ ap (λ (b : Bool). cond b (At clock) (old f)) c in
+            let named : ix f ≡ Some clock = h.same f ∙ ap (λ (b : Bool). cond b (Some clock) (old f)) c in
             all_goes clock (λ k. restored turn clock (suc (length older)) k.saved) r ix f (old f)
             (ap (is_at clock) named ∙ eq-eqb clock clock refl) c (gives_old r f h.right.0) (old_other f)
         go false c =
-            let kept : ix f ≡ old f = h.same f ∙ ap (λ (b : Bool). cond b (At clock) (old f)) c in
+            let kept : ix f ≡ old f = h.same f ∙ ap (λ (b : Bool). cond b (Some clock) (old f)) c in
             all_stays clock (λ k. restored turn clock (suc (length older)) k.saved) r ix f
             (ap (is_at clock) kept ∙ old_other f)
             ∙ kept

@@ -7,8 +7,7 @@ use Rattle.ring.proofs.Slots.{by_leb, back_below, back_back}
 use Rattle.frames.specs.OnHand.{Touch, changes}
 use Rattle.frames.specs.Afresh.{index_of}
 use Rattle.frames.specs.Keep.{up_to, distance, restored, is_at}
-use Rattle.frames.specs.declared.Entry.{Entry}
-use Rattle.frames.specs.declared.Entry.TheVariants.{Nothing, At}
+use Rattle.std.proofs.Common.{Option, Some, None}
 use Rattle.frames.proofs.Clocks.{back_none, apart, distance_back}
 
 abbrev pub later : ℕ → ℕ
@@ -20,9 +19,9 @@ newest [] f = 0
 newest (s ∷ older) f = cond (changes s f) 1 (later (newest older f))
 
 -- the entry that says the k-th newest step, from the newest's clock
-abbrev pub entry_back : ℕ → ℕ → ℕ → Entry
-entry_back turn clock zero = Nothing
-entry_back turn clock (suc k) = At (slot_back turn clock k)
+abbrev pub entry_back : ℕ → ℕ → ℕ → Option ℕ
+entry_back turn clock zero = None
+entry_back turn clock (suc k) = Some (slot_back turn clock k)
 
 -- ---- a number cut
 
@@ -104,7 +103,7 @@ module _ (turn : ℕ) where
   entry_later clock zero small h = refl
   entry_later clock (suc k) small h =
       let e : 1 + k ≡ suc k = omega arith in
-      ap At (back_back turn clock 1 k small (omega arith) ∙ ap (slot_back turn clock) e)
+      ap Some (back_back turn clock 1 k small (omega arith) ∙ ap (slot_back turn clock) e)
 
   pub index_newest : (clock : ℕ) (steps : List (List Touch)) (f : ℕ) → clock < turn → length steps ≤ turn → index_of turn clock steps f ≡ entry_back turn clock (newest steps f)
   index_newest clock [] f small few = refl
@@ -112,8 +111,8 @@ module _ (turn : ℕ) where
       go (changes s f) (index_newest (slot_back turn clock 1) older f (back_below turn clock 1 small (omega arith)) (omega arith))
     where
       go : (b : Bool) → index_of turn (slot_back turn clock 1) older f ≡ entry_back turn (slot_back turn clock 1) (newest older f) →
-          cond b (At clock) (index_of turn (slot_back turn clock 1) older f) ≡ entry_back turn clock (cond b 1 (later (newest older f)))
-      go true ih = ap At (sym (back_none turn clock small))
+          cond b (Some clock) (index_of turn (slot_back turn clock 1) older f) ≡ entry_back turn clock (cond b 1 (later (newest older f)))
+      go true ih = ap Some (sym (back_none turn clock small))
       go false ih = ih ∙ entry_later clock (newest older f) small (omega (arith, newest_below older f))
 
   module _ (clock : ℕ) (small : clock < turn) where
@@ -141,5 +140,5 @@ module _ (turn : ℕ) where
         (λ l.
         let inside : ltb (suc d) (suc h) ≡ true = lt-ltb (suc d) (suc h) (omega arith) in
         rw (up_to_in h (suc d) l, inside, lt-ltb 0 (suc d) (omega arith))
-        (ap At (sym (back_back turn clock 1 d small (omega arith) ∙ ap (slot_back turn clock) step))))
+        (ap Some (sym (back_back turn clock 1 d small (omega arith) ∙ ap (slot_back turn clock) step))))
         (λ l. rw (up_to_out h (suc d) l, le-ltb (suc d) (suc h) (omega arith), lt-ltb 0 (suc d) (omega arith)))

@@ -3,14 +3,13 @@
 use Rattle.std.specs.Prelude.{ℕ, cond, List, [], ◌∷◌}
 use Rattle.ring.specs.Slots.{slot_back}
 use Rattle.frames.specs.OnHand.{Touch, changes}
-use Rattle.frames.specs.declared.Entry.{Entry}
-use Rattle.frames.specs.declared.Entry.TheVariants.{Nothing, At}
+use Rattle.std.specs.Prelude.{Option, Some, None}
 
 -- an entry for each frame
 abbrev pub Index : Type 0
-Index = ℕ → Entry
+Index = ℕ → Option ℕ
 
 -- the steps on hand, the newest first, and the clock of the newest
 abbrev pub index_of : ℕ → ℕ → List (List Touch) → Index
-index_of turn clock [] f = Nothing
-index_of turn clock (s ∷ older) f = cond (changes s f) (At clock) (index_of turn (slot_back turn clock 1) older f)
+index_of turn clock [] f = None
+index_of turn clock (s ∷ older) f = cond (changes s f) (Some clock) (index_of turn (slot_back turn clock 1) older f)

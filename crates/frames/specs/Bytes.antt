@@ -7,18 +7,17 @@ use Rattle.ring.specs.Slots.{next_slot, slot_back}
 use Rattle.frames.specs.OnHand.{Touch, Event, ran, took}
 use Rattle.frames.specs.Afresh.{Index}
 use Rattle.frames.specs.Keep.{Kept, up_to, distance, restored, is_at}
-use Rattle.frames.specs.declared.Entry.{Entry}
-use Rattle.frames.specs.declared.Entry.TheVariants.{Nothing, At}
+use Rattle.std.specs.Prelude.{Option, Some, None}
 
 -- clocks have 64 bits
 abbrev pub whole : ℕ
 whole = 2 ^ 64
 
-abbrev pub entry_words : Entry → List ℕ
-entry_words Nothing = 0 ∷ 0 ∷ 0 ∷ 0 ∷ []
-entry_words (At c) = 1 ∷ c / 2 ^ 32 ∷ c % 2 ^ 32 ∷ 0 ∷ []
+abbrev pub entry_words : Option ℕ → List ℕ
+entry_words None = 0 ∷ 0 ∷ 0 ∷ 0 ∷ []
+entry_words (Some c) = 1 ∷ c / 2 ^ 32 ∷ c % 2 ^ 32 ∷ 0 ∷ []
 
-abbrev pub entry_bytes : Entry → List ℕ
+abbrev pub entry_bytes : Option ℕ → List ℕ
 entry_bytes e = flat word_bytes (entry_words e)
 
 -- the bytes of the index of so many frames
@@ -26,23 +25,23 @@ abbrev pub index_bytes : ℕ → Index → List ℕ
 index_bytes frames ix = flat entry_bytes (tabulate frames ix)
 
 -- any bytes have an entry for each frame: what does not begin with 1 is nothing
-unfoldable pub entry_at : List ℕ → ℕ → Entry
+unfoldable pub entry_at : List ℕ → ℕ → Option ℕ
 entry_at bytes f =
-    cond (word_at bytes (16 * f) == 1) (At (word_at bytes (16 * f + 4) * 2 ^ 32 + word_at bytes (16 * f + 8))) Nothing
+    cond (word_at bytes (16 * f) == 1) (Some (word_at bytes (16 * f + 4) * 2 ^ 32 + word_at bytes (16 * f + 8))) None
 
-abbrev pub put_entry : List ℕ → ℕ → Entry → List ℕ
+abbrev pub put_entry : List ℕ → ℕ → Option ℕ → List ℕ
 put_entry bytes f e = sets bytes (16 * f) (entry_bytes e)
 
 -- an entry that names the step at `clock` becomes e; any other stays
-abbrev pub replace_in : ℕ → ℕ → Entry → List ℕ → List ℕ
+abbrev pub replace_in : ℕ → ℕ → Option ℕ → List ℕ → List ℕ
 replace_in clock f e bytes = cond (is_at clock (entry_at bytes f)) (put_entry bytes f e) bytes
 
 -- a step at `clock` changed a frame, or left it
 abbrev pub mark_in : ℕ → ℕ → Bool → List ℕ → List ℕ
-mark_in clock f changed bytes = cond changed (put_entry bytes f (At clock)) bytes
+mark_in clock f changed bytes = cond changed (put_entry bytes f (Some clock)) bytes
 
 -- so for each place that a record keeps, and for each that a step touched
-abbrev pub replace_all_in : ℕ → (Kept → Entry) → List Kept → List ℕ → List ℕ
+abbrev pub replace_all_in : ℕ → (Kept → Option ℕ) → List Kept → List ℕ → List ℕ
 replace_all_in clock e [] bytes = bytes
 replace_all_in clock e (k ∷ ks) bytes = replace_all_in clock e ks (replace_in clock k.touch.frame (e k) bytes)
 
@@ -70,7 +69,7 @@ pub record LedgerIn : Type 0 where
 
 abbrev pub dropped_in : ℕ → LedgerIn → List ℕ
 dropped_in m l =
-    cond (nat_lt m (length l.records)) (replace_all_in (slot_back whole l.clock m) (λ k. Nothing) (slice_index_or l.records m []) l.bytes) l.bytes
+    cond (nat_lt m (length l.records)) (replace_all_in (slot_back whole l.clock m) (λ k. None) (slice_index_or l.records m []) l.bytes) l.bytes
 
 abbrev pub keep_in : ℕ → ℕ → List ℕ → Touch → Kept
 keep_in clock h bytes t = record { touch = t; saved = up_to h (distance whole clock (entry_at bytes t.frame)) }

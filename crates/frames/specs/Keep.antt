@@ -4,25 +4,24 @@ use Rattle.std.specs.Prelude.{ℕ, zero, suc, Bool, false, cond, ◌&&◌, List,
 use Rattle.ring.specs.Slots.{next_slot, slot_back}
 use Rattle.frames.specs.OnHand.{Touch, Event, ran, took}
 use Rattle.frames.specs.Afresh.{Index}
-use Rattle.frames.specs.declared.Entry.{Entry}
-use Rattle.frames.specs.declared.Entry.TheVariants.{Nothing, At}
+use Rattle.std.specs.Prelude.{Option, Some, None}
 
 -- a number that is not above k, else 0
 abbrev pub up_to : ℕ → ℕ → ℕ
 up_to k d = cond (nat_le d k) d 0
 
 -- how many steps before the one at `clock` an entry's step was
-abbrev pub distance : ℕ → ℕ → Entry → ℕ
-distance turn clock Nothing = 0
-distance turn clock (At c) = slot_back turn clock c
+abbrev pub distance : ℕ → ℕ → Option ℕ → ℕ
+distance turn clock None = 0
+distance turn clock (Some c) = slot_back turn clock c
 
 -- the entry d steps before the one at `clock`, if that step is among the h on hand (the one at `clock` counts)
-abbrev pub restored : ℕ → ℕ → ℕ → ℕ → Entry
-restored turn clock h d = cond (nat_lt 0 d && nat_lt d h) (At (slot_back turn clock d)) Nothing
+abbrev pub restored : ℕ → ℕ → ℕ → ℕ → Option ℕ
+restored turn clock h d = cond (nat_lt 0 d && nat_lt d h) (Some (slot_back turn clock d)) None
 
-abbrev pub is_at : ℕ → Entry → Bool
-is_at c Nothing = false
-is_at c (At e) = e == c
+abbrev pub is_at : ℕ → Option ℕ → Bool
+is_at c None = false
+is_at c (Some e) = e == c
 
 -- what a record on hand keeps of one place
 pub record Kept : Type 0 where
@@ -31,21 +30,21 @@ pub record Kept : Type 0 where
 
 -- ---- aids to proofs: nothing that a reader must believe
 
-abbrev pub with : Index → ℕ → Entry → Index
+abbrev pub with : Index → ℕ → Option ℕ → Index
 with ix f e g = cond (f == g) e (ix g)
 
 -- an entry of frame f that names the step at `clock` becomes e; any other stays
-abbrev pub replace : ℕ → ℕ → Entry → Index → Index
+abbrev pub replace : ℕ → ℕ → Option ℕ → Index → Index
 replace clock f e ix = cond (is_at clock (ix f)) (with ix f e) ix
 
 -- so for each place that a record keeps
-abbrev pub replace_all : ℕ → (Kept → Entry) → List Kept → Index → Index
+abbrev pub replace_all : ℕ → (Kept → Option ℕ) → List Kept → Index → Index
 replace_all clock e [] ix = ix
 replace_all clock e (k ∷ ks) ix = replace_all clock e ks (replace clock k.touch.frame (e k) ix)
 
 -- the oldest step, at `clock`, drops off
 abbrev pub forget_all : ℕ → List Kept → Index → Index
-forget_all clock = replace_all clock (λ k. Nothing)
+forget_all clock = replace_all clock (λ k. None)
 
 -- the newest step, at `clock` with h on hand, is taken back
 abbrev pub give_back_all : ℕ → ℕ → ℕ → List Kept → Index → Index
@@ -53,7 +52,7 @@ give_back_all turn clock h = replace_all clock (λ k. restored turn clock h k.sa
 
 -- a step at `clock` changed a frame
 abbrev pub mark : ℕ → Touch → Index → Index
-mark clock t ix = cond t.changed (with ix t.frame (At clock)) ix
+mark clock t ix = cond t.changed (with ix t.frame (Some clock)) ix
 
 abbrev pub mark_all : ℕ → List Touch → Index → Index
 mark_all clock [] ix = ix
@@ -94,6 +93,6 @@ popped turn (r ∷ older) l =
 
 -- from a reset: every entry is nothing
 abbrev pub ledger : ℕ → ℕ → ℕ → List Event → Ledger
-ledger turn n clock [] = record { clock = clock; records = []; index = λ f. Nothing }
+ledger turn n clock [] = record { clock = clock; records = []; index = λ f. None }
 ledger turn n clock (ran ts ∷ before) = pushed turn n ts (ledger turn n clock before)
 ledger turn n clock (took ∷ before) = popped turn (ledger turn n clock before).records (ledger turn n clock before)

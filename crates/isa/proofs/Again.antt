@@ -17,8 +17,8 @@ use Rattle.isa.specs.Opcode.{Opcode, opcodes, decode_of}
 use Rattle.isa.specs.Opcode as O
 use Rattle.isa.specs.Encode.{encode_of, Proper, ProperControl}
 use Rattle.isa.proofs.RoundTrip.{decode_encode}
-use Rattle.isa.specs.declared.control.Named.{Named}
-use Rattle.isa.specs.declared.control.Named.TheVariants.{Missing, Is}
+use Rattle.std.proofs.Common.{Option, Some, None}
+use Rattle.isa.specs.declared.instr.ControlRegister.{ControlRegister}
 use Rattle.isa.specs.declared.instr.Instr.{Instr}
 use Rattle.isa.specs.declared.instr.Instr.TheVariants.{Reserved, Unusable}
 use Rattle.isa.specs.declared.instr.Instr.TheVariants as instr
@@ -103,13 +103,13 @@ functions_fine = (
   ),
 )
 
-from_fine : (n : Named) (t : ℕ) → t < 32 → Fine (C.from_of n t)
-from_fine Missing t h = inr refl
-from_fine (Is r) t h = inl h
+from_fine : (n : Option ControlRegister) (t : ℕ) → t < 32 → Fine (C.from_of n t)
+from_fine None t h = inr refl
+from_fine (Some r) t h = inl h
 
-to_fine : (n : Named) (t : ℕ) → t < 32 → Fine (C.to_of n t)
-to_fine Missing t h = inr refl
-to_fine (Is r) t h = inl h
+to_fine : (n : Option ControlRegister) (t : ℕ) → t < 32 → Fine (C.to_of n t)
+to_fine None t h = inr refl
+to_fine (Some r) t h = inl h
 
 move_fine : (m : Move) (w : ℕ) → Fine (C.formed m w)
 move_fine C.none w = inr refl

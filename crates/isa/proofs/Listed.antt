@@ -10,7 +10,7 @@ use Rattle.isa.specs.Opcode.{opcodes}
 use Rattle.isa.specs.Opcode as O
 use Rattle.isa.specs.Cop0.{registers}
 use Rattle.isa.specs.Encode.{shift_code, shift_by_code, register_code, product_code, from_code, to_code, jump_code, compare_code, immediate_code, load_code, store_code, control_code}
-use Rattle.isa.specs.declared.control.Named.TheVariants.{Missing, Is}
+use Rattle.std.proofs.Common.{Some, None}
 use Rattle.isa.specs.declared.instr.ShiftOp.{ShiftOp}
 use Rattle.isa.specs.declared.instr.ShiftOp.TheVariants.{Sll, Srl, Sra}
 use Rattle.isa.specs.declared.instr.RegisterOp.{RegisterOp}
@@ -106,7 +106,7 @@ store_listed Swl = record { fits = lit< tt; entry = refl }
 store_listed Sw = record { fits = lit< tt; entry = refl }
 store_listed Swr = record { fits = lit< tt; entry = refl }
 
-pub control_listed : (r : ControlRegister) → At 32 registers Missing (control_code r) (Is r)
+pub control_listed : (r : ControlRegister) → At 32 registers None (control_code r) (Some r)
 control_listed Index = record { fits = lit< tt; entry = refl }
 control_listed Random = record { fits = lit< tt; entry = refl }
 control_listed EntryLo = record { fits = lit< tt; entry = refl }

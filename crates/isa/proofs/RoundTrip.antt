@@ -11,7 +11,7 @@ use Rattle.isa.specs.Opcode as O
 use Rattle.isa.specs.Regimm.{conditions}
 use Rattle.isa.specs.Regimm as R
 use Rattle.isa.specs.Cop0.{control_of, register_of}
-use Rattle.isa.specs.declared.control.Named.TheVariants.{Is}
+use Rattle.std.proofs.Common.{Some}
 use Rattle.isa.specs.declared.instr.ControlRegister.{ControlRegister}
 use Rattle.isa.specs.Encode.{r_type, i_type, encode_of, Proper, encode_control, ProperControl}
 use Rattle.isa.specs.Encode as E
@@ -63,7 +63,7 @@ module _ (s t : ℕ) (r : ControlRegister) (hs : s < 32) (ht : t < 32) where
   its_rt : rt moved ≡ t
   its_rt = r_rt 16 s t (E.control_code r) 0 0 hs ht (control_listed r).fits (lit< tt) (lit< tt)
 
-  its_register : register_of moved ≡ Is r
+  its_register : register_of moved ≡ Some r
   its_register = rw (r_rd 16 s t (E.control_code r) 0 0 hs ht (control_listed r).fits (lit< tt) (lit< tt)) (control_listed r).entry
 
 control_back : (c : Control) → ProperControl c → decode_of (encode_control c) ≡ instr.Control c

@@ -1,11 +1,10 @@
 -- The words of opcode COP0: the table of their field rs, that of CP0's registers, and that of its functions.
 -- Reserved by document 01: BC0F, BC0T, CFC0, CTC0 and TLBCLR, which have no entry, and a register number that has none.
-use Rattle.std.specs.Prelude.{ℕ, List, [], get_or}
+use Rattle.std.specs.Prelude.{ℕ, List, [], get_or, Option, Some, None}
 use Rattle.isa.specs.Table.{row}
 use Rattle.isa.specs.Fields.{rs, rt, rd, funct}
+use Rattle.isa.specs.declared.instr.ControlRegister.{ControlRegister}
 use Rattle.isa.specs.declared.instr.ControlRegister.TheVariants.{Index, Random, EntryLo, BadVAddr, EntryHi, Status, Cause, Epc}
-use Rattle.isa.specs.declared.control.Named.{Named}
-use Rattle.isa.specs.declared.control.Named.TheVariants.{Missing, Is}
 use Rattle.isa.specs.declared.instr.Control.{Control}
 use Rattle.isa.specs.declared.instr.Control.TheVariants.{Undefined, Mfc0, Mtc0, Tlbr, Tlbwi, Tlbwr, Tlbp, Rfe}
 
@@ -31,24 +30,24 @@ functions =
     (row Rfe Undefined Undefined Undefined Undefined Undefined Undefined Undefined []))
 
 -- bits 15-11
-abbrev pub registers : List Named
+abbrev pub registers : List (Option ControlRegister)
 registers =
-    row (Is Index) (Is Random) (Is EntryLo) Missing Missing Missing Missing Missing
-    (row (Is BadVAddr) Missing (Is EntryHi) Missing (Is Status) (Is Cause) (Is Epc) Missing [])
+    row (Some Index) (Some Random) (Some EntryLo) None None None None None
+    (row (Some BadVAddr) None (Some EntryHi) None (Some Status) (Some Cause) (Some Epc) None [])
 
-abbrev pub register_of : ℕ → Named
-register_of w = get_or registers (rd w) Missing
+abbrev pub register_of : ℕ → Option ControlRegister
+register_of w = get_or registers (rd w) None
 
 abbrev pub function_of : ℕ → Control
 function_of w = get_or functions (funct w) Undefined
 
-abbrev pub from_of : Named → ℕ → Control
-from_of Missing t = Undefined
-from_of (Is r) t = Mfc0 t r
+abbrev pub from_of : Option ControlRegister → ℕ → Control
+from_of None t = Undefined
+from_of (Some r) t = Mfc0 t r
 
-abbrev pub to_of : Named → ℕ → Control
-to_of Missing t = Undefined
-to_of (Is r) t = Mtc0 t r
+abbrev pub to_of : Option ControlRegister → ℕ → Control
+to_of None t = Undefined
+to_of (Some r) t = Mtc0 t r
 
 abbrev pub formed : Move → ℕ → Control
 formed none w = Undefined

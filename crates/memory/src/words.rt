@@ -11,7 +11,7 @@ pub fn put_words(words: &[u32], m: &mut [u8], at: usize)
     requires { at + 4 * length words.now ≤ length m.old }
     ensures { m.new ≡ sets m.old at (flat (to_bytes 4) words.now) }
 {
-    for i in 0..words.len() {
-        store_word(m, at + 4 * i, words[i]);
+    for (i, word) in words.iter().enumerate() {
+        store_word(m, at + 4 * i, *word);
     }
 }

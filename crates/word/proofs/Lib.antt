@@ -4,7 +4,6 @@ pub mod Lists
 pub mod Maps
 pub mod Within
 pub mod Signs
-pub mod Differences
 pub mod BigWords
 pub mod LittleBytes
 pub mod BitLaws

@@ -32,16 +32,6 @@ to_split (suc a) b x =
 cut : (n x : ℕ) → x % 256 ^ suc n ≡ (x / 256 % 256 ^ n) * 256 + x % 256
 cut n x = rw pow-suc (mod-mul x (one-le-pow n 256 (omega arith)) (omega arith))
 
--- the bytes of a number do not see what lies above them
-pub to_mod : (n x : ℕ) → to_bytes n (x % 256 ^ n) ≡ to_bytes n x
-unfolding to_bytes
-to_mod zero x = refl
-to_mod (suc n) x =
-    let both = cut n x in
-    let low : x % 256 ^ suc n % 256 ≡ x % 256 = omega arith in
-    let high : x % 256 ^ suc n / 256 ≡ x / 256 % 256 ^ n = omega arith in
-    (λ i. low i ∷ to_bytes n (high i)) ∙ ap (λ t. x % 256 ∷ t) (to_mod n (x / 256))
-
 pub from_to : (n x : ℕ) → from_bytes (to_bytes n x) ≡ x % 256 ^ n
 unfolding from_bytes to_bytes
 from_to zero x = sym (mod-one x)

@@ -9,6 +9,7 @@ pub fn has_bit(k: usize, map: u32) -> bool
     (map >> k) % 2 == 1
 }
 
+#[tactic(auto, unfolding(crate::specs::Map::with_bit))]
 pub fn with_bit(k: usize, on: bool, map: u32) -> u32
     requires { k < 32 }
     ensures { result ≡ with_bit k on map }

@@ -2,6 +2,7 @@
 ghost use Rattle.std.specs.Prelude.{◌≡◌};
 ghost use Rattle.word.specs.Mask.{overlaid_of};
 
+#[tactic(auto, unfolding(crate::specs::Mask::overlaid_of))]
 pub fn overlaid(mask: u32, old: u32, new: u32) -> u32
     ensures { result ≡ overlaid_of mask old new }
 {

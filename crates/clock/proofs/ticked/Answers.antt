@@ -5,25 +5,23 @@ use Rattle.clock.specs.Tick.{up, down, ticked_of}
 use Rattle.clock.proofs.ticked.Goals as goal
 
 -- the count h, l one step later: its low word goes up by itself, and its high word where that one is 0 then
-module _ (h l n : ℕ) (hb : h < 2 ^ 32) (lb : l < 2 ^ 32) (stepped : n ≡ up 32 l) where
-  low_word : n ≡ up 64 (h * 2 ^ 32 + l) % 2 ^ 32
+module _ (h l : ℕ) (hb : h < 2 ^ 32) (lb : l < 2 ^ 32) where
+  low_word : up 32 l ≡ up 64 (h * 2 ^ 32 + l) % 2 ^ 32
   low_word = omega arith
 
-  high_word : cond (eqb n 0) (up 32 h) h ≡ up 64 (h * 2 ^ 32 + l) / 2 ^ 32
+  high_word : cond (eqb (up 32 l) 0) (up 32 h) h ≡ up 64 (h * 2 ^ 32 + l) / 2 ^ 32
   high_word =
-      elim (ℕ_discrete n 0) [
-        | yes z ↦ rw (eq-eqb n 0 z) (omega arith)
-        | no z ↦ rw (ne_eqb n 0 z) (omega arith)
+      elim (ℕ_discrete (up 32 l) 0) [
+        | yes z ↦ rw (eq-eqb (up 32 l) 0 z) (omega arith)
+        | no z ↦ rw (ne_eqb (up 32 l) 0 z) (omega arith)
       ]
 
 pub returns : goal.returns
 unfolding ticked_of
 returns c =
-    let stepped = c in
-    let was = stepped.args.c in
+    let was = c.args.c in
     let h : was.high < 2 ^ 32 = omega arith in
     let l : was.low < 2 ^ 32 = omega arith in
-    let low = low_word was.high was.low _ h l stepped.wrapping_add_u32-low.ensures.value in
-    let high = c.carried.ensures ∙ high_word was.high was.low _ h l stepped.wrapping_add_u32-low.ensures.value in
-    let timer : c.wrapping_sub_u32.result ≡ down 32 was.timer = omega arith in
-    λ i. record { clock = record { high = high i; low = low i; timer = timer i }; rang = eqb was.timer 0 }
+    let low = low_word was.high was.low h l in
+    let high = c.carried.ensures ∙ high_word was.high was.low h l in
+    λ i. record { clock = record { high = high i; low = low i; timer = down 32 was.timer }; rang = eqb was.timer 0 }

@@ -1,7 +1,12 @@
--- `memory::store_half` meets its contract: two of half its width.
-use Rattle.memory.proofs.Widths.{store_two}
-use borrow.Author.Rules.{rules}
+-- `memory::store_half` meets its contract.
+use Rattle.std.proofs.Common.{◌≡◌, suc, ◌+◌, sym, arith}
+use Rattle.word.specs.Little.{to_bytes}
+use Rattle.memory.proofs.Cells.{stored_sets}
 use Rattle.memory.proofs.store_half.Goals as goal
 
 pub returns : goal.returns
-returns c = store_two 1 _ _ (search rules) _ _ _ c.store_byte.ensures c.store_byte-2.ensures
+unfolding to_bytes
+returns c =
+    let at = c.args.at in
+    let second : at + 1 ≡ suc at = omega arith in
+    rw (c.to_le_bytes.ensures, second) (sym (stored_sets 2 c.args.m.now at c.args.x (omega arith)))

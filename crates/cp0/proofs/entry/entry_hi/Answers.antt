@@ -1,12 +1,9 @@
 -- `cp0::entry::entry_hi` meets its contract.
-use mathlib.Core.Path.{◌∙◌}
+use Rattle.std.proofs.Common.{◌≡◌, true, ◌∙◌, rules}
+use Rattle.word.specs.Number.{between}
 use Rattle.cp0.specs.Entry.{entry_hi_of}
 use Rattle.cp0.proofs.entry.entry_hi.Goals as goal
 
-pub returns-then-between : goal.returns-then-between
+pub returns-then-matches : goal.returns-then-matches
 unfolding entry_hi_of
-returns-then-between c = let on = rw c.between.ensures at c.if-between.true in c.overlaid.ensures ∙ rw on
-
-pub returns : goal.returns
-unfolding entry_hi_of
-returns c = let off = rw c.between.ensures at c.if-between.false in rw off
+returns-then-matches c = let on : between 1 3 c.args.e.code ≡ true = search rules in c.overlaid.ensures ∙ rw on

@@ -1,4 +1,4 @@
--- `isa::control::function` meets its contract: each arm by the entry of its key, the last by the rest of the table.
+-- `isa::control::function` meets its contract: its last arm by the rest of the table.
 use mathlib.Core.Path.{refl}
 use mathlib.Core.List.{List, [], ◌∷◌}
 use Prim.Native.Nat.{ℕ}
@@ -11,21 +11,6 @@ use Rattle.isa.proofs.control.function.Goals as goal
 -- the keys of the `match`, from the last to the first
 abbrev keys : List ℕ
 keys = 16 ∷ 8 ∷ 6 ∷ 2 ∷ 1 ∷ []
-
-pub returns-in-1 : goal.returns-in-1
-returns-in-1 c = rw c.in-1.is
-
-pub returns-in-2 : goal.returns-in-2
-returns-in-2 c = rw c.in-2.is
-
-pub returns-in-6 : goal.returns-in-6
-returns-in-6 c = rw c.in-6.is
-
-pub returns-in-8 : goal.returns-in-8
-returns-in-8 c = rw c.in-8.is
-
-pub returns-in-16 : goal.returns-in-16
-returns-in-16 c = rw c.in-16.is
 
 pub returns-in_default : goal.returns-in_default
 returns-in_default c = rw (rest functions Undefined Undefined keys 64 0 refl _ (omega arith) (omega arith) c.in_default.in_default-own.rest)

@@ -1,4 +1,4 @@
--- `isa::decode::memory` meets its contract: each arm by the entry of its key, the last by the rest of the table.
+-- `isa::decode::memory` meets its contract: its last arm by the rest of the table.
 use mathlib.Core.Path.{refl}
 use mathlib.Core.List.{List, [], ◌∷◌}
 use Prim.Native.Nat.{ℕ}
@@ -10,60 +10,6 @@ use Rattle.isa.proofs.decode.memory.Goals as goal
 -- the keys of the `match`, from the last to the first
 abbrev keys : List ℕ
 keys = 59 ∷ 58 ∷ 57 ∷ 51 ∷ 50 ∷ 49 ∷ 46 ∷ 43 ∷ 42 ∷ 41 ∷ 40 ∷ 38 ∷ 37 ∷ 36 ∷ 35 ∷ 34 ∷ 33 ∷ 32 ∷ []
-
-pub returns-in-32 : goal.returns-in-32
-returns-in-32 c = rw c.in-32.is
-
-pub returns-in-33 : goal.returns-in-33
-returns-in-33 c = rw c.in-33.is
-
-pub returns-in-34 : goal.returns-in-34
-returns-in-34 c = rw c.in-34.is
-
-pub returns-in-35 : goal.returns-in-35
-returns-in-35 c = rw c.in-35.is
-
-pub returns-in-36 : goal.returns-in-36
-returns-in-36 c = rw c.in-36.is
-
-pub returns-in-37 : goal.returns-in-37
-returns-in-37 c = rw c.in-37.is
-
-pub returns-in-38 : goal.returns-in-38
-returns-in-38 c = rw c.in-38.is
-
-pub returns-in-40 : goal.returns-in-40
-returns-in-40 c = rw c.in-40.is
-
-pub returns-in-41 : goal.returns-in-41
-returns-in-41 c = rw c.in-41.is
-
-pub returns-in-42 : goal.returns-in-42
-returns-in-42 c = rw c.in-42.is
-
-pub returns-in-43 : goal.returns-in-43
-returns-in-43 c = rw c.in-43.is
-
-pub returns-in-46 : goal.returns-in-46
-returns-in-46 c = rw c.in-46.is
-
-pub returns-in-49 : goal.returns-in-49
-returns-in-49 c = rw c.in-49.is
-
-pub returns-in-50 : goal.returns-in-50
-returns-in-50 c = rw c.in-50.is
-
-pub returns-in-51 : goal.returns-in-51
-returns-in-51 c = rw c.in-51.is
-
-pub returns-in-57 : goal.returns-in-57
-returns-in-57 c = rw c.in-57.is
-
-pub returns-in-58 : goal.returns-in-58
-returns-in-58 c = rw c.in-58.is
-
-pub returns-in-59 : goal.returns-in-59
-returns-in-59 c = rw c.in-59.is
 
 pub returns-in_default : goal.returns-in_default
 returns-in_default c = rw (rest opcodes none none keys 32 32 refl _ (omega arith) (omega arith) c.in_default.in_default-own.rest)

@@ -1,16 +1,9 @@
 -- `big::put_words` meets its contract. The invariant: the bytes of the words passed are stored, and nothing else.
-use mathlib.Core.Path.{◌≡◌}
-use Prim.Native.Nat.{◌-◌, ◌≤◌}
-use lib.ListN.{length, take}
-use lib.Seq.{sets}
+use Rattle.std.proofs.Common.{◌≡◌, take}
+use Rattle.std.proofs.lemmas.List.Edits.{sets}
 use Rattle.word.specs.Lists.{flat}
 use Rattle.word.specs.Big.{word_bytes}
 use Rattle.word.proofs.big.put_words.Given as goal
 
 abbrev pub invariant-loop-i : goal.invariant-loop-i
-invariant-loop-i l =
-    (l.i-end ≡ length l.words) × (l.i ≤ length l.words) × (length l.bytes ≡ length l.initial.bytes)
-    × (l.bytes ≡ sets l.initial.bytes l.at (flat word_bytes (take l.i l.words)))
-
-abbrev pub decreases-loop-i : goal.decreases-loop-i
-decreases-loop-i l = l.i-end - l.i
+invariant-loop-i l = l.bytes ≡ sets l.initial.bytes l.at (flat word_bytes (take l.i l.words))
