@@ -5,13 +5,12 @@ use Prim.Native.Nat.{ℕ, ◌-◌, ◌%◌, ◌≤◌, ◌<◌}
 use native.Mathlib.Omega.{arith}
 use lib.Dec.{leb, ltb}
 use borrow.Author.Tests.{leb-true, ltb-true}
+use Rattle.std.specs.Prelude.{Option, Some, None}
 use Rattle.word.proofs.Cond.{both, picked}
 use Rattle.board.specs.Places.{execution_base, device_base, device_size, bootstrap_base, ram_base, spans, mapped_of}
 use Rattle.board.specs.declared.places.Sizes.{Sizes}
 use Rattle.board.specs.declared.places.Place.{Place}
 use Rattle.board.specs.declared.places.Place.TheVariants.{Ram, Execution, Bootstrap, Device}
-use Rattle.board.specs.declared.places.OnBus.{OnBus}
-use Rattle.board.specs.declared.places.OnBus.TheVariants.{In, Nowhere}
 
 -- an area does not begin below its start, nor go past its size
 pub starts : (start size p : ℕ) → spans start size p ≡ true → start ≤ p
@@ -43,9 +42,9 @@ inside p start size even h =
     record { within = ends start size p h; same = omega arith }
 
 module _ (sizes : Sizes) (p : ℕ) where
-  abbrev MapsInside : OnBus → Type 0
-  MapsInside (In place) = Inside p (offset_of place) (size_of sizes place)
-  MapsInside Nowhere = Unit
+  abbrev MapsInside : Option Place → Type 0
+  MapsInside (Some place) = Inside p (offset_of place) (size_of sizes place)
+  MapsInside None = Unit
 
   maps : MapsInside (mapped_of sizes p)
   unfolding mapped_of
@@ -56,5 +55,5 @@ module _ (sizes : Sizes) (p : ℕ) where
       (λ _. picked MapsInside (spans device_base device_size p) _ _ (inside p device_base device_size (omega arith))
       (λ _. tt))))
 
-  pub mapped_inside : {place : Place} → mapped_of sizes p ≡ In place → Inside p (offset_of place) (size_of sizes place)
+  pub mapped_inside : {place : Place} → mapped_of sizes p ≡ Some place → Inside p (offset_of place) (size_of sizes place)
   mapped_inside h = subst MapsInside h maps

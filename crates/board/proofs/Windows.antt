@@ -2,22 +2,23 @@
 -- exactly where the answer refuses.
 use mathlib.Core.Path.{◌≡◌, refl}
 use mathlib.Core.Bool.{Bool, cond, true, false, not, ◌&&◌, ◌||◌, false≢true}
-use mathlib.Core.List.{List}
+use mathlib.Core.List.{List, []}
 use Prim.Native.Nat.{ℕ, ◌+◌, ◌-◌, ◌%◌, ◌≤◌, ◌<◌}
 use native.Mathlib.Omega.{arith}
 use lib.Dec.{eqb, leb}
 use lib.ListN.{length, drop, length-drop}
 use lib.Seq.{length-take-le}
 use borrow.Author.Tests.{eqb-true}
+use Rattle.std.specs.Prelude.{Result, Ok, Err}
 use Rattle.word.proofs.Cond.{both, picked}
 use Rattle.board.specs.Places.{execution_base, bootstrap_base, spans}
 use Rattle.board.specs.Rom.{fit_of, held_of, answer_of, number_of, four_at, part_of, window_of}
-use Rattle.board.specs.declared.rom.RomAnswer.{RomAnswer}
-use Rattle.board.specs.declared.rom.RomAnswer.TheVariants.{Done, BadRom, BadAddress}
+use Rattle.board.specs.declared.rom.RomError.{RomError}
+use Rattle.board.specs.declared.rom.RomError.TheVariants.{BadRom, BadAddress}
 use Rattle.board.proofs.Areas.{starts, ends}
 
-abbrev answer_by : Bool → Bool → RomAnswer
-answer_by fit held = cond fit (cond held Done BadAddress) BadRom
+abbrev answer_by : Bool → Bool → Result Unit RomError
+answer_by fit held = cond fit (cond held (Ok tt) (Err BadAddress)) (Err BadRom)
 
 two_by : (fit held : Bool) → eqb (number_of (answer_by fit held)) 2 ≡ not fit
 two_by true true = refl
@@ -34,7 +35,7 @@ zero_by true true = refl
 zero_by true false = refl
 zero_by false held = refl
 
-done_by : (fit held : Bool) → answer_by fit held ≡ Done → (fit ≡ true) × (held ≡ true)
+done_by : (fit held : Bool) → answer_by fit held ≡ Ok tt → (fit ≡ true) × (held ≡ true)
 done_by true true h = (refl, refl)
 done_by true false h = let z : ◌≡◌ {A = ℕ} 0 1 = cc in absurd (omega arith)
 done_by false held h = let z : ◌≡◌ {A = ℕ} 0 1 = cc in absurd (omega arith)
@@ -62,7 +63,7 @@ module _ (e b a : ℕ) where
   unfolding answer_of
   answer_zero = zero_by (fit_of e && fit_of b) (held_of e b a)
 
-  module _ (done : answer_of e b a ≡ Done) where
+  module _ (done : answer_of e b a ≡ Ok tt) where
     fits : (fit_of e && fit_of b) ≡ true
     unfolding answer_of
     fits = (done_by (fit_of e && fit_of b) (held_of e b a) done).0
@@ -103,10 +104,15 @@ four_there rom at h = length-take-le 4 (drop at rom) (simp length-drop (omega ar
 pub window_exact : (x y : List ℕ) (a : ℕ) → length (window_of x y a) ≡ cond (eqb (number_of (answer_of (length x) (length y) a)) 0) 4 0
 window_exact x y a = go (answer_of (length x) (length y) a) refl
   where
-    go : (r : RomAnswer) → answer_of (length x) (length y) a ≡ r → length (part_of x y a r) ≡ cond (eqb (number_of r) 0) 4 0
-    go Done d =
+    go : (r : Result Unit RomError) → answer_of (length x) (length y) a ≡ r → length (part_of x y a r) ≡ cond (eqb (number_of r) 0) 4 0
+    go (Ok done) d =
         picked (λ (l : List ℕ). length l ≡ 4) (spans execution_base (length x) a) _ _
         (λ h. four_there x _ (in_execution (length x) (length y) a d h))
         (λ h. four_there y _ (in_bootstrap (length x) (length y) a d h))
-    go BadRom d = refl
-    go BadAddress d = refl
+    go (Err BadRom) d = refl
+    go (Err BadAddress) d = refl
+
+-- a refusal has no bytes
+pub refused_part : (x y : List ℕ) (a : ℕ) (error : RomError) → part_of x y a (Err error) ≡ []
+refused_part x y a BadRom = refl
+refused_part x y a BadAddress = refl

@@ -1,9 +1,8 @@
 -- The physical address map: the manual's ROM and RAM areas, and document 01's "Bus words and printers" for the device area's end.
-use Rattle.std.specs.Prelude.{Bool, cond, ◌&&◌, ℕ, ◌-◌, leb, ltb}
+use Rattle.std.specs.Prelude.{Bool, cond, ◌&&◌, ℕ, ◌-◌, leb, ltb, Option, Some, None}
 use Rattle.board.specs.declared.places.Sizes.{Sizes}
+use Rattle.board.specs.declared.places.Place.{Place}
 use Rattle.board.specs.declared.places.Place.TheVariants.{Ram, Execution, Bootstrap, Device}
-use Rattle.board.specs.declared.places.OnBus.{OnBus}
-use Rattle.board.specs.declared.places.OnBus.TheVariants.{In, Nowhere}
 
 -- the first physical address of each area
 abbrev pub execution_base : ℕ
@@ -27,10 +26,10 @@ abbrev pub spans : ℕ → ℕ → ℕ → Bool
 spans start size p = leb start p && ltb (p - start) size
 
 -- the area that a physical address lies in, of those that are installed, with the offset there
-unfoldable pub mapped_of : Sizes → ℕ → OnBus
+unfoldable pub mapped_of : Sizes → ℕ → Option Place
 mapped_of sizes p =
-    cond (spans ram_base sizes.ram p) (In (Ram (p - ram_base)))
-    (cond (spans execution_base sizes.execution p) (In (Execution (p - execution_base)))
-    (cond (spans bootstrap_base sizes.bootstrap p) (In (Bootstrap (p - bootstrap_base)))
-    (cond (spans device_base device_size p) (In (Device (p - device_base)))
-    Nowhere)))
+    cond (spans ram_base sizes.ram p) (Some (Ram (p - ram_base)))
+    (cond (spans execution_base sizes.execution p) (Some (Execution (p - execution_base)))
+    (cond (spans bootstrap_base sizes.bootstrap p) (Some (Bootstrap (p - bootstrap_base)))
+    (cond (spans device_base device_size p) (Some (Device (p - device_base)))
+    None)))

@@ -1,8 +1,8 @@
 -- Document 01, rows 0, 2 and 9, and "Two further public calls": what is answered for a physical address, and the four bytes there.
-use Rattle.std.specs.Prelude.{Bool, cond, ◌&&◌, ◌||◌, List, [], ℕ, ◌-◌, ◌%◌, eqb, leb, length, take, drop}
+use Rattle.std.specs.Prelude.{Bool, cond, ◌&&◌, ◌||◌, List, [], ℕ, ◌-◌, ◌%◌, eqb, leb, length, take, drop, Result, Ok, Err}
 use Rattle.board.specs.Places.{execution_base, bootstrap_base, spans}
-use Rattle.board.specs.declared.rom.RomAnswer.{RomAnswer}
-use Rattle.board.specs.declared.rom.RomAnswer.TheVariants.{Done, BadRom, BadAddress}
+use Rattle.board.specs.declared.rom.RomError.{RomError}
+use Rattle.board.specs.declared.rom.RomError.TheVariants.{BadRom, BadAddress}
 
 -- 4 to 65,536 bytes, a multiple of 4
 abbrev pub fit_of : ℕ → Bool
@@ -13,8 +13,8 @@ abbrev pub held_of : ℕ → ℕ → ℕ → Bool
 held_of e b a = eqb (a % 4) 0 && (spans execution_base e a || spans bootstrap_base b a)
 
 -- the lowest number that applies: 2 where a ROM is not fit, 9 where the address is not held
-unfoldable pub answer_of : ℕ → ℕ → ℕ → RomAnswer
-answer_of e b a = cond (fit_of e && fit_of b) (cond (held_of e b a) Done BadAddress) BadRom
+unfoldable pub answer_of : ℕ → ℕ → ℕ → Result Unit RomError
+answer_of e b a = cond (fit_of e && fit_of b) (cond (held_of e b a) (Ok tt) (Err BadAddress)) (Err BadRom)
 
 abbrev pub four_at : List ℕ → ℕ → List ℕ
 four_at rom at = take 4 (drop at rom)
@@ -27,10 +27,10 @@ from_of execution bootstrap a =
     (four_at bootstrap (a - bootstrap_base))
 
 -- the returned part: empty where the answer refuses
-abbrev pub part_of : List ℕ → List ℕ → ℕ → RomAnswer → List ℕ
-part_of execution bootstrap a Done = from_of execution bootstrap a
-part_of execution bootstrap a BadRom = []
-part_of execution bootstrap a BadAddress = []
+abbrev pub part_of : List ℕ → List ℕ → ℕ → Result Unit RomError → List ℕ
+part_of execution bootstrap a (Ok done) = from_of execution bootstrap a
+part_of execution bootstrap a (Err BadRom) = []
+part_of execution bootstrap a (Err BadAddress) = []
 
 abbrev pub window_of : List ℕ → List ℕ → ℕ → List ℕ
 window_of execution bootstrap a = part_of execution bootstrap a (answer_of (length execution) (length bootstrap) a)
@@ -38,7 +38,7 @@ window_of execution bootstrap a = part_of execution bootstrap a (answer_of (leng
 -- ---- aids to proofs: nothing that a reader must believe
 
 -- document 01's number of each answer
-abbrev pub number_of : RomAnswer → ℕ
-number_of Done = 0
-number_of BadRom = 2
-number_of BadAddress = 9
+abbrev pub number_of : Result Unit RomError → ℕ
+number_of (Ok done) = 0
+number_of (Err BadRom) = 2
+number_of (Err BadAddress) = 9

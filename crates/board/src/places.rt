@@ -29,44 +29,30 @@ pub enum Place {
     Device(u32),
 }
 
-#[derive(Clone, Copy)]
-pub enum OnBus {
-    In(Place),
-    Nowhere,
-}
-
 // In 64 bits, so that the ROM calls can ask it of any address.
 pub fn spans(start: u32, size: u64, p: u64) -> bool
     ensures { result ≡ spans start size p }
 {
     let first = start as u64;
-    if p < first {
-        return false;
-    }
-    p - first < size
+    first <= p && p - first < size
 }
 
-fn covers(start: u32, size: u32, p: u32) -> bool
-    ensures { result ≡ spans start size p }
-{
-    spans(start, size as u64, p as u64)
-}
-
-// RAM first: nearly every access is one of RAM.
-pub fn mapped(sizes: Sizes, p: u32) -> OnBus
+// Where an address is on the bus, if anywhere. RAM first: nearly every access is one of RAM.
+pub fn mapped(sizes: Sizes, p: u32) -> Option<Place>
     ensures { result ≡ mapped_of sizes p }
 {
-    if covers(RAM, sizes.ram, p) {
-        return OnBus::In(Place::Ram(p - RAM));
+    let at = p as u64;
+    if spans(RAM, sizes.ram as u64, at) {
+        return Some(Place::Ram(p - RAM));
     }
-    if covers(EXECUTION, sizes.execution, p) {
-        return OnBus::In(Place::Execution(p - EXECUTION));
+    if spans(EXECUTION, sizes.execution as u64, at) {
+        return Some(Place::Execution(p - EXECUTION));
     }
-    if covers(BOOTSTRAP, sizes.bootstrap, p) {
-        return OnBus::In(Place::Bootstrap(p - BOOTSTRAP));
+    if spans(BOOTSTRAP, sizes.bootstrap as u64, at) {
+        return Some(Place::Bootstrap(p - BOOTSTRAP));
     }
-    if covers(DEVICES, DEVICES_SIZE, p) {
-        return OnBus::In(Place::Device(p - DEVICES));
+    if spans(DEVICES, DEVICES_SIZE as u64, at) {
+        return Some(Place::Device(p - DEVICES));
     }
-    OnBus::Nowhere
+    None
 }

@@ -1,12 +1,12 @@
 -- What an instruction of a user step asks for: where CP0 is not usable nothing of CP0 and no row, and a store only where it is a store.
+use Rattle.std.specs.Prelude.{Result}
 use Prim.{tt}
 use Prim.Native.Nat.{ℕ}
 use mathlib.Core.Path.{◌≡◌, refl}
 use mathlib.Core.Bool.{false}
 use mathlib.Core.List.{List}
 use Rattle.alu.specs.Sum.{addiu_of}
-use Rattle.alu.specs.declared.sum.Added.{Added}
-use Rattle.alu.specs.declared.sum.Added.TheVariants.{Sum, Overflow}
+use Rattle.std.proofs.Common.{Option, Some, None}
 use Rattle.isa.specs.declared.instr.Control.{Control}
 use Rattle.isa.specs.declared.instr.Instr.{Instr}
 use Rattle.isa.specs.declared.instr.Instr.TheVariants.{Reserved, Unusable, Syscall, Break, Shift, ShiftBy, Register, Product, MoveFrom, MoveTo, JumpRegister, JumpLinkRegister, Jump, Compare, Sign, Immediate, LoadUpper, Load, Store}
@@ -17,7 +17,8 @@ use Rattle.isa.specs.declared.instr.StoreOp.{StoreOp}
 use Rattle.board.specs.declared.places.Sizes.{Sizes}
 use Rattle.cp0.specs.Privilege.{usable_of}
 use Rattle.tlb.specs.declared.Row.{Row}
-use Rattle.reach.specs.declared.Reached.{Reached}
+use Rattle.reach.specs.declared.Fault.{Fault}
+use Rattle.board.specs.declared.places.Place.{Place}
 use Rattle.reach.specs.declared.access.Kind.TheVariants as kind
 use Rattle.state.specs.declared.machine.Core.{Core}
 use Rattle.intend.specs.Access.{reached_of, store_width}
@@ -31,7 +32,7 @@ use Rattle.intend.specs.declared.intent.Intent.TheVariants as intent
 
 module _ (core : Core) (regs : List ℕ) (t : List Row) (sizes : Sizes) where
   -- the instruction is a store, and its answer is this one
-  pub record IsStore (i : Instr) (op : StoreOp) (x va : ℕ) (answer : Reached) : Type 0 where
+  pub record IsStore (i : Instr) (op : StoreOp) (x va : ℕ) (answer : Result Place Fault) : Type 0 where
     pub rt : ℕ
     pub base : ℕ
     pub offset : ℕ
@@ -50,9 +51,9 @@ module _ (core : Core) (regs : List ℕ) (t : List Row) (sizes : Sizes) where
   Asked i (intent.SetRow k row) = ⊥
   Asked i (intent.Trap code coprocessor) = Unit {0}
 
-  summed_asked : (i : Instr) (sum : Added) (d : ℕ) → Asked i (summed_of sum d)
-  summed_asked i (Sum v) d = tt
-  summed_asked i Overflow d = tt
+  summed_asked : (i : Instr) (sum : Option ℕ) (d : ℕ) → Asked i (summed_of sum d)
+  summed_asked i (Some v) d = tt
+  summed_asked i None d = tt
 
   jumps_asked : (i : Instr) (op : JumpOp) (target : ℕ) → Asked i (jumps_of op core target)
   jumps_asked i J target = tt

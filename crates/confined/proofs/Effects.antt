@@ -1,4 +1,5 @@
 -- The effect of a user step: none on CP0 by an instruction, on the table or on a device; and on RAM only where the word fetched is a store, which lands through its row.
+use Rattle.std.specs.Prelude.{Result, Ok, Err}
 use Prim.{tt}
 use Prim.Native.Nat.{ℕ, ◌*◌, ◌/◌, ◌≤◌, ◌<◌}
 use mathlib.Core.Path.{◌≡◌, refl, sym, ap, subst, ◌∙◌}
@@ -22,8 +23,7 @@ use Rattle.cp0.specs.Interrupt.{interrupts_of}
 use Rattle.tlb.specs.Entry.{no_row}
 use Rattle.tlb.specs.declared.Row.{Row}
 use Rattle.reach.specs.Translate.{is_valid, is_dirty}
-use Rattle.reach.specs.declared.Reached.{Reached}
-use Rattle.reach.specs.declared.Reached.TheVariants.{Lands, Exception}
+use Rattle.reach.specs.declared.Fault.{Fault}
 use Rattle.reach.specs.declared.access.Kind.TheVariants.{Fetch, Store}
 use Rattle.reach.specs.declared.access.Width.TheVariants.{Four}
 use Rattle.state.specs.declared.machine.Core.{Core}
@@ -74,7 +74,7 @@ module _ (core : Core) (regs : List ℕ) (t : List Row) (lent : Lent) where
   pub record StoreFetched (op : StoreOp) (rt base offset : ℕ) : Type 0 where
     pub uninterrupted : interrupts_of core.cp0.status core.cp0.cause ≡ false
     pub place : Place
-    pub fetched : reached_of Fetch Four core.cp0 t (sizes_of lent) core.pc ≡ Lands place
+    pub fetched : reached_of Fetch Four core.cp0 t (sizes_of lent) core.pc ≡ Ok place
     pub decoded : decode_of (word_in lent place) ≡ instr.Store op rt base offset
 
   pub record SomeStore : Type 0 where
@@ -110,22 +110,22 @@ module _ (core : Core) (regs : List ℕ) (t : List Row) (lent : Lent) where
     settles S i (intent.Write d v) asked some = to_register_lem S d _ tt
     settles S i (intent.Branch d v next) asked some = to_register_lem S d _ tt
     settles S i (intent.HiLo hi lo) asked some = tt
-    settles S i (intent.Load op d va (Lands p)) asked some = loads S op d _ _ p
-    settles S i (intent.Load op d va (Exception miss code)) asked some = tt
-    settles S i (intent.Store op x va (Lands p)) asked some =
+    settles S i (intent.Load op d va (Ok p)) asked some = loads S op d _ _ p
+    settles S i (intent.Load op d va (Err fault)) asked some = tt
+    settles S i (intent.Store op x va (Ok p)) asked some =
         stores S op x _ va p (store_through core.cp0 t (sizes_of lent) va (store_width op) user virtual frames (sym asked.answered))
         (some op asked.rt asked.base asked.offset asked.is)
-    settles S i (intent.Store op x va (Exception miss code)) asked some = tt
+    settles S i (intent.Store op x va (Err fault)) asked some = tt
     settles S i (intent.SetControl r word) asked some = asked
     settles S i (intent.SetEntry row) asked some = asked
     settles S i (intent.SetRow k row) asked some = asked
     settles S i (intent.Trap code coprocessor) asked some = tt
 
     module _ (quiet : interrupts_of core.cp0.status core.cp0.cause ≡ false) where
-      fetched_confines : (answer : Reached) → reached_of Fetch Four core.cp0 t (sizes_of lent) core.pc ≡ answer →
+      fetched_confines : (answer : Result Place Fault) → reached_of Fetch Four core.cp0 t (sizes_of lent) core.pc ≡ answer →
           Confines SomeStore (fetched_of core regs t lent answer).effect
       unfolding execute_of
-      fetched_confines (Lands p) e =
+      fetched_confines (Ok p) e =
           settles SomeStore (decode_of (word_in lent p)) (intend_of core regs t (sizes_of lent) (decode_of (word_in lent p)))
           (intend_asked core regs t (sizes_of lent) (unusable_user user unusable) (decode_of (word_in lent p)))
           (λ op rt base offset is. record {
@@ -135,7 +135,7 @@ module _ (core : Core) (regs : List ℕ) (t : List Row) (lent : Lent) where
             offset = offset;
             is = record { uninterrupted = quiet; place = p; fetched = e; decoded = is };
           })
-      fetched_confines (Exception miss code) e = tt
+      fetched_confines (Err fault) e = tt
 
     pub decide_confines : Confines SomeStore (decide_of core regs t lent).effect
     unfolding decide_of
@@ -153,18 +153,18 @@ module _ (core : Core) (regs : List ℕ) (t : List Row) (lent : Lent) where
       unfolding decide_of execute_of settle_of intend_of
       decided = rw (s.uninterrupted, s.fetched) (ap (λ i. settle_of core regs lent (intend_of core regs t (sizes_of lent) i)) s.decoded)
 
-      lands : (answer : Reached) → reached_of Store (store_width op) core.cp0 t (sizes_of lent) va ≡ answer →
+      lands : (answer : Result Place Fault) → reached_of Store (store_width op) core.cp0 t (sizes_of lent) va ≡ answer →
           enters (stored_of core lent op (reg_of regs rt) va answer).effect ≡ false → Landed op rt base offset
-      lands (Lands p) e quiet =
+      lands (Ok p) e quiet =
           let through = store_through core.cp0 t (sizes_of lent) va (store_width op) user virtual frames e in
           record {
             at = through.at;
             through = subst (Through op va) through.is_ram through;
             effect =
                 ap (λ (d : Decision). d.effect)
-                (decided ∙ ap (stored_of core lent op (reg_of regs rt) va) (e ∙ ap Lands through.is_ram));
+                (decided ∙ ap (stored_of core lent op (reg_of regs rt) va) (e ∙ ap Ok through.is_ram));
           }
-      lands (Exception miss code) e quiet = absurd (false≢true (sym quiet))
+      lands (Err fault) e quiet = absurd (false≢true (sym quiet))
 
       pub store_landed : enters (decide_of core regs t lent).effect ≡ false → Landed op rt base offset
       store_landed quiet = lands _ refl (ap (λ (d : Decision). enters d.effect) (sym decided) ∙ quiet)

@@ -1,4 +1,5 @@
 -- Where a store of a user step lands: in RAM, through the lowest row that matches, which is valid and dirty.
+use Rattle.std.specs.Prelude.{Result, Ok, Err, Option, Some, None}
 use Prim.{tt}
 use Prim.Native.Nat.{ℕ, ◌+◌, ◌-◌, ◌%◌, ◌^◌, ◌≤◌, ◌<◌}
 use mathlib.Core.Path.{◌≡◌, refl, subst}
@@ -14,15 +15,13 @@ use Rattle.board.specs.Places.{execution_base, device_base, device_size, bootstr
 use Rattle.board.specs.declared.places.Sizes.{Sizes}
 use Rattle.board.specs.declared.places.Place.{Place}
 use Rattle.board.specs.declared.places.Place.TheVariants.{Ram}
-use Rattle.board.specs.declared.places.OnBus.{OnBus}
 use Rattle.board.proofs.Areas.{ends}
 use Rattle.cp0.specs.Privilege.{mode_of}
 use Rattle.cp0.specs.declared.registers.Cp0.{Cp0}
 use Rattle.tlb.specs.Entry.{no_row, matches_of}
 use Rattle.tlb.specs.Search.{found_in}
 use Rattle.tlb.specs.declared.Row.{Row}
-use Rattle.tlb.specs.declared.Found.{Found}
-use Rattle.tlb.specs.declared.Found.TheVariants.{At, Nothing}
+use Rattle.tlb.specs.declared.Hit.{Hit}
 use Rattle.tlb.proofs.Laws.{Lowest, found_lowest}
 use Rattle.reach.specs.Check.{aligned_of, allowed_of}
 use Rattle.reach.specs.Translate.{sought_of, is_valid, is_dirty, by_row, by_found, translated_of}
@@ -32,9 +31,7 @@ use Rattle.reach.specs.Access.{alignment}
 use Rattle.reach.specs.declared.access.Access.{Access}
 use Rattle.reach.specs.declared.access.Kind.TheVariants.{Store}
 use Rattle.reach.specs.declared.access.Width.{Width}
-use Rattle.reach.specs.declared.translate.Translated.{Translated}
-use Rattle.reach.specs.declared.Reached.{Reached}
-use Rattle.reach.specs.declared.Reached.TheVariants.{Lands, Exception}
+use Rattle.reach.specs.declared.Fault.{Fault}
 use Rattle.intend.specs.Access.{reached_of}
 use Rattle.confined.specs.Confined.{frame_of}
 
@@ -56,9 +53,9 @@ module _ (t : List Row) (entry : ℕ) (sizes : Sizes) (va : ℕ) where
     abbrev access : Access
     access = record { kind = Store; width = width }
 
-    abbrev LandsSo : Reached → Type 0
-    LandsSo (Lands place) = ThroughRow width place
-    LandsSo (Exception miss code) = Unit {0}
+    abbrev LandsSo : Result Place Fault → Type 0
+    LandsSo (Ok place) = ThroughRow width place
+    LandsSo (Err fault) = Unit {0}
 
     -- above the start of RAM there are RAM and ROM alone, and no store lands in ROM
     on_bus : (row : ℕ) → Lowest (matches_of (sought_of va entry)) t row → is_valid (get_or t row no_row) ≡ true → is_dirty (get_or t row no_row) ≡ true →
@@ -67,7 +64,7 @@ module _ (t : List Row) (entry : ℕ) (sizes : Sizes) (va : ℕ) where
     on_bus row lowest valid dirty p is =
         let high : ram_base ≤ frame_of (get_or t row no_row) = frames row lowest.within valid dirty in
         let up : ram_base ≤ p = omega arith in
-        picked (λ (m : OnBus). LandsSo (lands_of Store width m)) (spans ram_base sizes.ram p) _ _
+        picked (λ (m : Option Place). LandsSo (lands_of Store width m)) (spans ram_base sizes.ram p) _ _
         (λ h. record {
           at = p - ram_base;
           is_ram = refl;
@@ -79,29 +76,29 @@ module _ (t : List Row) (entry : ℕ) (sizes : Sizes) (va : ℕ) where
           dirty = dirty;
           physical = omega arith;
         })
-        (λ _. picked (λ (m : OnBus). LandsSo (lands_of Store width m)) (spans execution_base sizes.execution p) _ _ (λ _. tt)
-        (λ _. picked (λ (m : OnBus). LandsSo (lands_of Store width m)) (spans bootstrap_base sizes.bootstrap p) _ _ (λ _. tt)
-        (λ _. picked (λ (m : OnBus). LandsSo (lands_of Store width m)) (spans device_base device_size p) _ _
+        (λ _. picked (λ (m : Option Place). LandsSo (lands_of Store width m)) (spans execution_base sizes.execution p) _ _ (λ _. tt)
+        (λ _. picked (λ (m : Option Place). LandsSo (lands_of Store width m)) (spans bootstrap_base sizes.bootstrap p) _ _ (λ _. tt)
+        (λ _. picked (λ (m : Option Place). LandsSo (lands_of Store width m)) (spans device_base device_size p) _ _
         (λ h. let l = ends device_base device_size p h in absurd (omega arith))
         (λ _. tt))))
 
     by_this_row : (row : ℕ) → Lowest (matches_of (sought_of va entry)) t row → LandsSo (bus_after access sizes (by_row Store va (get_or t row no_row)))
     unfolding by_row
     by_this_row row lowest =
-        picked (λ (x : Translated). LandsSo (bus_after access sizes x)) (is_valid (get_or t row no_row)) _ _
-        (λ valid. picked (λ (x : Translated). LandsSo (bus_after access sizes x)) (not (is_dirty (get_or t row no_row))) _ _ (λ _. tt)
+        picked (λ (x : Result ℕ Fault). LandsSo (bus_after access sizes x)) (is_valid (get_or t row no_row)) _ _
+        (λ valid. picked (λ (x : Result ℕ Fault). LandsSo (bus_after access sizes x)) (not (is_dirty (get_or t row no_row))) _ _ (λ _. tt)
         (λ unlocked. on_bus row lowest valid (not-false (is_dirty (get_or t row no_row)) unlocked) _ refl))
         (λ _. tt)
 
-    by_found_lem : (f : Found) → found_in (sought_of va entry) t ≡ f → LandsSo (bus_after access sizes (by_found Store va t f))
-    by_found_lem (At i second) e = by_this_row i (found_lowest (matches_of (sought_of va entry)) t i second e)
-    by_found_lem Nothing e = tt
+    by_found_lem : (f : Option Hit) → found_in (sought_of va entry) t ≡ f → LandsSo (bus_after access sizes (by_found Store va t f))
+    by_found_lem (Some hit) e = by_this_row hit.at (found_lowest (matches_of (sought_of va entry)) t hit.at hit.twice e)
+    by_found_lem None e = tt
 
 module _ (cp0 : Cp0) (t : List Row) (sizes : Sizes) (va : ℕ) (width : Width) (user : bit 1 cp0.status ≡ true) (virtual : bit 24 cp0.status ≡ true)
     (frames : (i : ℕ) → i < length t → is_valid (get_or t i no_row) ≡ true → is_dirty (get_or t i no_row) ≡ true → ram_base ≤ frame_of (get_or t i no_row)) where
-  abbrev LandsThrough : Reached → Type 0
-  LandsThrough (Lands place) = ThroughRow t cp0.entry_hi sizes va width place
-  LandsThrough (Exception miss code) = Unit {0}
+  abbrev LandsThrough : Result Place Fault → Type 0
+  LandsThrough (Ok place) = ThroughRow t cp0.entry_hi sizes va width place
+  LandsThrough (Err fault) = Unit {0}
 
   -- user mode under VMc goes above 0x80000000, where all is translated
   high : allowed_of (mode_of cp0.status) va ≡ true → leb 0x20000000 va ≡ true
@@ -118,10 +115,10 @@ module _ (cp0 : Cp0) (t : List Row) (sizes : Sizes) (va : ℕ) (width : Width) (
   reached : LandsThrough (reached_of Store width cp0 t sizes va)
   unfolding reached_of reach_of
   reached =
-      picked (λ (x : Translated). LandsThrough (bus_after (record { kind = Store; width = width }) sizes x)) (aligned_of width va && allowed_of (mode_of cp0.status) va) _ _
+      picked (λ (x : Result ℕ Fault). LandsThrough (bus_after (record { kind = Store; width = width }) sizes x)) (aligned_of width va && allowed_of (mode_of cp0.status) va) _ _
       (λ h. let parts = both (aligned_of width va) (allowed_of (mode_of cp0.status) va) h in
       rw (translated parts.1) (by_found_lem t cp0.entry_hi sizes va frames width (eqb-true (va % alignment width) 0 parts.0) _ refl))
       (λ _. tt)
 
-  pub store_through : {place : Place} → reached_of Store width cp0 t sizes va ≡ Lands place → ThroughRow t cp0.entry_hi sizes va width place
+  pub store_through : {place : Place} → reached_of Store width cp0 t sizes va ≡ Ok place → ThroughRow t cp0.entry_hi sizes va width place
   store_through e = subst LandsThrough e reached

@@ -7,8 +7,7 @@ use native.Mathlib.Nat.{mod-lt}
 use native.Mathlib.Omega.{arith}
 use lib.ListN.{length}
 use Rattle.word.proofs.Cond.{picked}
-use Rattle.alu.specs.declared.sum.Added.{Added}
-use Rattle.alu.specs.declared.sum.Added.TheVariants.{Sum, Overflow}
+use Rattle.std.proofs.Common.{Option, Some, None}
 use Rattle.isa.specs.Opcode.{decode_of}
 use Rattle.isa.specs.declared.instr.Control.{Control}
 use Rattle.isa.specs.declared.instr.Control.TheVariants.{Undefined, Mfc0, Mtc0, Tlbr, Tlbwi, Tlbwr, Tlbp, Rfe}
@@ -50,9 +49,9 @@ module _ (lent : Lent) (t : List Row) where
   abbrev Asked : Intent → Type 0
   Asked i = Asks lent (length t) i
 
-  summed_asks : (sum : Added) (d : ℕ) → d < 32 → Asked (summed_of sum d)
-  summed_asks (Sum v) d h = h
-  summed_asks Overflow d h = tt
+  summed_asks : (sum : Option ℕ) (d : ℕ) → d < 32 → Asked (summed_of sum d)
+  summed_asks (Some v) d h = h
+  summed_asks None d h = tt
 
   jumps_asks : (op : JumpOp) (core : Core) (target : ℕ) → Asked (jumps_of op core target)
   jumps_asks J core target = omega arith

@@ -1,4 +1,5 @@
 -- Every effect of a step is in range: `decide_within`.
+use Rattle.std.specs.Prelude.{Result, Ok, Err}
 use Prim.{tt}
 use Prim.Native.Nat.{ℕ, ◌<◌}
 use mathlib.Core.Path.{◌≡◌}
@@ -15,8 +16,7 @@ use Rattle.board.specs.declared.places.Place.{Place}
 use Rattle.board.specs.declared.places.Place.TheVariants.{Ram, Execution, Bootstrap, Device}
 use Rattle.cp0.specs.Interrupt.{interrupts_of}
 use Rattle.tlb.specs.declared.Row.{Row}
-use Rattle.reach.specs.declared.Reached.{Reached}
-use Rattle.reach.specs.declared.Reached.TheVariants.{Lands, Exception}
+use Rattle.reach.specs.declared.Fault.{Fault}
 use Rattle.reach.specs.declared.access.Kind.TheVariants.{Fetch}
 use Rattle.reach.specs.declared.access.Width.TheVariants.{Four}
 use Rattle.state.specs.declared.machine.Core.{Core}
@@ -61,10 +61,10 @@ module _ (lent : Lent) (rows : ℕ) where
     settle_within (intent.Write d v) small = to_register_within d _ (λ above. (above, small))
     settle_within (intent.Branch d v next) small = to_register_within d _ (λ above. (above, small))
     settle_within (intent.HiLo hi lo) asks = tt
-    settle_within (intent.Load op d va (Lands place)) asks = loads_within op d _ _ place asks.0 asks.1
-    settle_within (intent.Load op d va (Exception miss code)) asks = tt
-    settle_within (intent.Store op x va (Lands place)) asks = stores_within op x _ place asks
-    settle_within (intent.Store op x va (Exception miss code)) asks = tt
+    settle_within (intent.Load op d va (Ok place)) asks = loads_within op d _ _ place asks.0 asks.1
+    settle_within (intent.Load op d va (Err fault)) asks = tt
+    settle_within (intent.Store op x va (Ok place)) asks = stores_within op x _ place asks
+    settle_within (intent.Store op x va (Err fault)) asks = tt
     settle_within (intent.SetControl r word) asks = tt
     settle_within (intent.SetEntry row) asks = tt
     settle_within (intent.SetRow i row) asks = asks
@@ -79,9 +79,9 @@ module _ (lent : Lent) (whole : Whole lent) (t : List Row) (rows : 0 < length t)
   execute_within word =
       settle_within lent (length t) core regs (intend_of core regs t (sizes_of lent) (decode_of word)) (decoded_asks lent t whole rows core regs word)
 
-  fetched_within : (answer : Reached) → In (fetched_of core regs t lent answer)
-  fetched_within (Lands place) = execute_within (word_in lent place)
-  fetched_within (Exception miss code) = tt
+  fetched_within : (answer : Result Place Fault) → In (fetched_of core regs t lent answer)
+  fetched_within (Ok place) = execute_within (word_in lent place)
+  fetched_within (Err fault) = tt
 
   pub decide_within : In (decide_of core regs t lent)
   unfolding decide_of

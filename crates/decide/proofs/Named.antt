@@ -13,8 +13,8 @@ use Rattle.isa.specs.Regimm as regimm
 use Rattle.isa.specs.Cop0 as cop0
 use Rattle.isa.specs.Opcode as op
 use Rattle.isa.specs.Opcode.{decode_of}
-use Rattle.isa.specs.declared.control.Named.{Named}
-use Rattle.isa.specs.declared.control.Named.TheVariants.{Missing, Is}
+use Rattle.std.proofs.Common.{Option, Some, None}
+use Rattle.isa.specs.declared.instr.ControlRegister.{ControlRegister}
 use Rattle.isa.specs.declared.instr.Control.{Control}
 use Rattle.isa.specs.declared.instr.Control.TheVariants.{Undefined, Mfc0, Mtc0, Tlbr, Tlbwi, Tlbwr, Tlbp, Rfe}
 use Rattle.isa.specs.declared.instr.Instr.{Instr}
@@ -71,13 +71,13 @@ regimm_names : (c : regimm.Condition) (w : ℕ) → Names (regimm.formed c w)
 regimm_names regimm.none w = tt
 regimm_names (regimm.sign op) w = tt
 
-from_names : (n : Named) (t : ℕ) → t < 32 → NamedControl (cop0.from_of n t)
-from_names Missing t h = tt
-from_names (Is r) t h = h
+from_names : (n : Option ControlRegister) (t : ℕ) → t < 32 → NamedControl (cop0.from_of n t)
+from_names None t h = tt
+from_names (Some r) t h = h
 
-to_names : (n : Named) (t : ℕ) → NamedControl (cop0.to_of n t)
-to_names Missing t = tt
-to_names (Is r) t = tt
+to_names : (n : Option ControlRegister) (t : ℕ) → NamedControl (cop0.to_of n t)
+to_names None t = tt
+to_names (Some r) t = tt
 
 -- CP0's functions are no moves
 abbrev is_function : Control → Bool

@@ -1,4 +1,5 @@
 -- A plain fetch reads the word in RAM at PC, under whatever CP0 and the table hold.
+use Rattle.std.specs.Prelude.{Ok}
 use mathlib.Core.Path.{◌≡◌, ap, ◌∙◌}
 use mathlib.Core.Bool.{true}
 use mathlib.Core.List.{List}
@@ -15,7 +16,6 @@ use Rattle.state.specs.declared.machine.Core.{Core}
 use Rattle.intend.proofs.Plain.{plain_lands}
 use Rattle.decide.specs.Lent.{Lent, sizes_of, Whole}
 use Rattle.decide.specs.Fetch.{answered, fetch_of}
-use Rattle.decide.specs.declared.fetch.Fetched.TheVariants.{Word}
 
 module _ (core : Core) (lent : Lent) (whole : Whole lent) (h : plain_of core.cp0.status Four (length lent.ram) core.pc ≡ true) where
   pub plain_room : core.pc - 0x20000000 + 4 ≤ length lent.ram
@@ -24,9 +24,9 @@ module _ (core : Core) (lent : Lent) (whole : Whole lent) (h : plain_of core.cp0
       let words = whole.ram.whole in
       omega arith
 
-  pub plain_fetch : (t : List Row) → fetch_of core t lent ≡ Word (load_at 4 lent.ram (core.pc - 0x20000000))
+  pub plain_fetch : (t : List Row) → fetch_of core t lent ≡ Ok (load_at 4 lent.ram (core.pc - 0x20000000))
   unfolding fetch_of
   plain_fetch t =
       let p = is_plain core.cp0.status Four (length lent.ram) core.pc h in
       let same : (core.pc - 0x20000000) / 4 * 4 ≡ core.pc - 0x20000000 = omega arith in
-      ap (answered lent) (plain_lands kind.Fetch Four core.cp0 t (sizes_of lent) core.pc h) ∙ ap (λ (at : ℕ). Word (load_at 4 lent.ram at)) same
+      ap (answered lent) (plain_lands kind.Fetch Four core.cp0 t (sizes_of lent) core.pc h) ∙ ap (λ (at : ℕ). Ok (load_at 4 lent.ram at)) same

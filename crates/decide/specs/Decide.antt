@@ -1,11 +1,11 @@
 -- Document 01, "One step": "3. If IEc is 1 and IP and IM share a bit, the step is interrupt entry and runs no instruction.
 -- 4. Otherwise fetch at PC and execute."
-use Rattle.std.specs.Prelude.{ℕ, cond, List}
+use Rattle.std.specs.Prelude.{ℕ, cond, List, Result, Ok, Err}
 use Rattle.isa.specs.Opcode.{decode_of}
 use Rattle.cp0.specs.Interrupt.{interrupts_of}
 use Rattle.tlb.specs.declared.Row.{Row}
-use Rattle.reach.specs.declared.Reached.{Reached}
-use Rattle.reach.specs.declared.Reached.TheVariants.{Lands, Exception}
+use Rattle.reach.specs.declared.Fault.{Fault}
+use Rattle.board.specs.declared.places.Place.{Place}
 use Rattle.reach.specs.declared.access.Kind.TheVariants.{Fetch}
 use Rattle.reach.specs.declared.access.Width.TheVariants.{Four}
 use Rattle.state.specs.declared.machine.Core.{Core}
@@ -21,9 +21,9 @@ module _ (core : Core) (regs : List ℕ) (t : List Row) (lent : Lent) where
   unfoldable pub execute_of : ℕ → Decision
   execute_of word = settle_of core regs lent (intend_of core regs t (sizes_of lent) (decode_of word))
 
-  abbrev pub fetched_of : Reached → Decision
-  fetched_of (Lands place) = execute_of (word_in lent place)
-  fetched_of (Exception miss code) = refused_of core code miss core.pc
+  abbrev pub fetched_of : Result Place Fault → Decision
+  fetched_of (Ok place) = execute_of (word_in lent place)
+  fetched_of (Err fault) = refused_of core fault.code fault.miss core.pc
 
   unfoldable pub decide_of : Decision
   decide_of =

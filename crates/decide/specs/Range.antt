@@ -1,8 +1,8 @@
 -- What stays in range: an answer, an intent, an effect.
-use Rattle.std.specs.Prelude.{ℕ, ◌+◌, ◌%◌, ◌≤◌, ◌<◌, ◌≡◌}
+use Rattle.std.specs.Prelude.{ℕ, ◌+◌, ◌%◌, ◌≤◌, ◌<◌, ◌≡◌, Result, Ok, Err}
 use Rattle.board.specs.Places.{device_size}
-use Rattle.reach.specs.declared.Reached.{Reached}
-use Rattle.reach.specs.declared.Reached.TheVariants as reached
+use Rattle.reach.specs.declared.Fault.{Fault}
+use Rattle.board.specs.declared.places.Place.{Place}
 use Rattle.intend.specs.declared.intent.Intent.{Intent}
 use Rattle.intend.specs.declared.intent.Intent.TheVariants as intent
 use Rattle.decide.specs.Lent.{Lent, Room}
@@ -11,9 +11,9 @@ use Rattle.decide.specs.declared.effect.Effect.TheVariants.{Nothing, Register, H
 
 -- ---- aids to proofs: nothing that a reader must believe
 
-abbrev pub Held : Lent → Reached → Type 0
-Held lent (reached.Lands place) = Room lent place
-Held lent (reached.Exception miss code) = Unit {0}
+abbrev pub Held : Lent → Result Place Fault → Type 0
+Held lent (Ok place) = Room lent place
+Held lent (Err fault) = Unit {0}
 
 -- rows is the size of the translation table
 abbrev pub Asks : Lent → ℕ → Intent → Type 0

@@ -1,13 +1,12 @@
 -- What an intent then changes, once the address answer is known: the PC pair, whether the next step is a slot, and the effect.
-use Rattle.std.specs.Prelude.{ℕ, ◌*◌, ◌/◌, Bool, cond, true, false, List, eqb}
+use Rattle.std.specs.Prelude.{ℕ, ◌*◌, ◌/◌, Bool, cond, true, false, List, eqb, Result, Ok, Err}
 use Rattle.isa.specs.declared.instr.LoadOp.{LoadOp}
 use Rattle.isa.specs.declared.instr.StoreOp.{StoreOp}
 use Rattle.board.specs.declared.places.Place.{Place}
 use Rattle.board.specs.declared.places.Place.TheVariants as place
 use Rattle.cp0.specs.Entry.{vector_of}
 use Rattle.cp0.specs.declared.entry.Exception.{Exception}
-use Rattle.reach.specs.declared.Reached.{Reached}
-use Rattle.reach.specs.declared.Reached.TheVariants as reached
+use Rattle.reach.specs.declared.Fault.{Fault}
 use Rattle.state.specs.declared.machine.Core.{Core}
 use Rattle.intend.specs.Operand.{reg_of, after_of}
 use Rattle.intend.specs.declared.intent.Intent.{Intent}
@@ -67,13 +66,13 @@ written_of d v = to_register d (Register d v)
 abbrev pub branched_of : Core → ℕ → ℕ → ℕ → Decision
 branched_of core d v next = record { pc = core.next_pc; next_pc = next; branched = true; effect = written_of d v }
 
-abbrev pub loaded_of : Core → Lent → LoadOp → ℕ → ℕ → ℕ → Reached → Decision
-loaded_of core lent op d old va (reached.Lands place) = on_of core (loads_of op d old (word_in lent place) place)
-loaded_of core lent op d old va (reached.Exception miss code) = refused_of core code miss va
+abbrev pub loaded_of : Core → Lent → LoadOp → ℕ → ℕ → ℕ → Result Place Fault → Decision
+loaded_of core lent op d old va (Ok place) = on_of core (loads_of op d old (word_in lent place) place)
+loaded_of core lent op d old va (Err fault) = refused_of core fault.code fault.miss va
 
-abbrev pub stored_of : Core → Lent → StoreOp → ℕ → ℕ → Reached → Decision
-stored_of core lent op x va (reached.Lands place) = on_of core (stores_of op x (word_in lent place) place)
-stored_of core lent op x va (reached.Exception miss code) = refused_of core code miss va
+abbrev pub stored_of : Core → Lent → StoreOp → ℕ → ℕ → Result Place Fault → Decision
+stored_of core lent op x va (Ok place) = on_of core (stores_of op x (word_in lent place) place)
+stored_of core lent op x va (Err fault) = refused_of core fault.code fault.miss va
 
 module _ (core : Core) (regs : List ℕ) (lent : Lent) where
   unfoldable pub settle_of : Intent → Decision

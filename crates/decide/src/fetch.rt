@@ -7,18 +7,12 @@ ghost use Rattle.decide.specs.Fetch.{fetch_of};
 use crate::lent::{sizes, word_in};
 use board::places::RAM;
 use cp0::privilege::mode_of;
-use pages::{near, place};
-use reach::Reached;
+use pages::{Pages, near, place};
+use reach::Fault;
 use reach::access::{Access, Kind, Width};
 use reach::plain::plain;
 use state::machine::Core;
 use tlb::Row;
-
-#[derive(Clone, Copy)]
-pub enum Fetched {
-    Word(u32),
-    Refused(u32, bool), // code, miss
-}
 
 pub fn fetch_slow(
     core: Core,
@@ -26,7 +20,7 @@ pub fn fetch_slow(
     execution: &[u8],
     bootstrap: &[u8],
     ram: &[u8],
-) -> Fetched
+) -> Result<u32, Fault>
     requires { Whole (lent_of execution.now bootstrap.now ram.now) }
     ensures { result ≡ fetch_of core rows (lent_of execution.now bootstrap.now ram.now) }
 {
@@ -37,37 +31,34 @@ pub fn fetch_slow(
     };
     let cp0 = core.cp0;
     let to = reach::physical(mode_of(cp0.status), access, core.pc, rows, cp0.entry_hi);
-    let answer = reach::landed(access, lent, to);
-    match answer {
-        Reached::Lands(place) => Fetched::Word(word_in(place, execution, bootstrap, ram)),
-        Reached::Exception { miss, code } => Fetched::Refused(code, miss),
-    }
+    let place = reach::landed(access, lent, to)?;
+    Ok(word_in(place, execution, bootstrap, ram))
 }
 
 // The plain access first: what is aligned and in RAM with VM off is read at once; then the page that is remembered.
 pub fn fetch(
     core: Core,
     rows: [Row; 16],
-    pages: &[u32; 5],
+    pages: &Pages,
     execution: &[u8],
     bootstrap: &[u8],
     ram: &[u8],
-) -> Fetched
+) -> Result<u32, Fault>
     requires whole { Whole (lent_of execution.now bootstrap.now ram.now) }
     requires known { Known pages.now rows (length ram.now) }
     ensures { result ≡ fetch_of core rows (lent_of execution.now bootstrap.now ram.now) }
 {
     if plain(core.cp0.status, Width::Four, ram.len() as u32, core.pc) {
-        return Fetched::Word(memory::load_word(ram, (core.pc - RAM) as usize));
+        return Ok(memory::load_word(ram, (core.pc - RAM) as usize));
     }
-    if near(
-        pages[0],
+    if let Some(page) = near(
+        pages.fetches,
         Width::Four,
         core.cp0.status,
         core.cp0.entry_hi,
         core.pc,
     ) {
-        return Fetched::Word(memory::load_word(ram, place(pages[1], core.pc) as usize));
+        return Ok(memory::load_word(ram, place(page.frame, core.pc) as usize));
     }
     fetch_slow(core, rows, execution, bootstrap, ram)
 }

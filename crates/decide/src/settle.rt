@@ -28,7 +28,7 @@ use cp0::entry::{Exception, vector};
 use intend::intent::Intent;
 use intend::operand::{after, reg};
 use isa::instr::{LoadOp, StoreOp};
-use reach::Reached;
+use reach::{Fault, Reached};
 use state::machine::Core;
 
 fn on(core: Core, effect: Effect) -> Decision
@@ -54,16 +54,16 @@ pub fn raised(core: Core, exception: Exception) -> Decision
     }
 }
 
-pub fn refused(core: Core, code: u32, miss: bool, address: u32) -> Decision
-    ensures { result ≡ refused_of core code miss address }
+pub fn refused(core: Core, fault: Fault, address: u32) -> Decision
+    ensures { result ≡ refused_of core fault.code fault.miss address }
 {
     raised(
         core,
         Exception {
-            code,
+            code: fault.code,
             coprocessor: 0,
             address,
-            miss,
+            miss: fault.miss,
         },
     )
 }
@@ -101,9 +101,9 @@ fn loads(op: LoadOp, d: u32, old: u32, word: u32, place: Place) -> Effect
     ensures { result ≡ loads_of op d old word place }
 {
     match place {
-        Place::Ram(at) => read(op, d, old, word, at),
-        Place::Execution(at) => read(op, d, old, word, at),
-        Place::Bootstrap(at) => read(op, d, old, word, at),
+        Place::Ram(at) | Place::Execution(at) | Place::Bootstrap(at) => {
+            read(op, d, old, word, at)
+        }
         Place::Device(at) => to_register(d, Effect::DeviceLoad(d, at)),
     }
 }
@@ -113,8 +113,7 @@ fn stores(op: StoreOp, x: u32, word: u32, place: Place) -> Effect
 {
     match place {
         Place::Ram(at) => Effect::Ram(at / 4 * 4, store_part(op, x, word, at)),
-        Place::Execution(_) => Effect::Nothing,
-        Place::Bootstrap(_) => Effect::Nothing,
+        Place::Execution(_) | Place::Bootstrap(_) => Effect::Nothing,
         Place::Device(at) => Effect::DeviceStore(at, x),
     }
 }
@@ -135,11 +134,11 @@ fn loaded(
     ensures { result ≡ loaded_of core (lent_of execution.now bootstrap.now ram.now) op d (reg_of regs.now d) va reached }
 {
     match reached {
-        Reached::Lands(place) => {
+        Ok(place) => {
             let word = word_in(place, execution, bootstrap, ram);
             on(core, loads(op, d, reg(regs, d), word, place))
         }
-        Reached::Exception { miss, code } => refused(core, code, miss, va),
+        Err(fault) => refused(core, fault, va),
     }
 }
 
@@ -157,11 +156,11 @@ fn stored(
     ensures { result ≡ stored_of core (lent_of execution.now bootstrap.now ram.now) op x va reached }
 {
     match reached {
-        Reached::Lands(place) => {
+        Ok(place) => {
             let word = word_in(place, execution, bootstrap, ram);
             on(core, stores(op, x, word, place))
         }
-        Reached::Exception { miss, code } => refused(core, code, miss, va),
+        Err(fault) => refused(core, fault, va),
     }
 }
 
@@ -182,6 +181,7 @@ fn branched(core: Core, d: u32, v: u32, next: u32) -> Decision
     }
 }
 
+#[tactic(auto, unfolding(crate::specs::Settle::settle_of))]
 pub fn settle(
     intent: Intent,
     core: Core,

@@ -6,13 +6,14 @@ ghost use Rattle.decide.specs.Lent.{lent_of, Whole};
 ghost use Rattle.decide.specs.Decide.{execute_of, decide_of};
 
 use crate::effect::Decision;
-use crate::fetch::{Fetched, fetch};
+use crate::fetch::fetch;
 use crate::lent::sizes;
 use crate::settle::{refused, settle, trapped};
 use cp0::interrupt::interrupts;
 use intend::codes::INT;
 use intend::intend;
 use isa::decode::decode;
+use pages::Pages;
 use state::machine::Core;
 use tlb::Row;
 
@@ -21,7 +22,7 @@ fn execute(
     core: Core,
     regs: &[u32; 32],
     rows: [Row; 16],
-    pages: &[u32; 5],
+    pages: &Pages,
     execution: &[u8],
     bootstrap: &[u8],
     ram: &[u8],
@@ -47,7 +48,7 @@ pub fn decide(
     core: Core,
     regs: &[u32; 32],
     rows: [Row; 16],
-    pages: &[u32; 5],
+    pages: &Pages,
     execution: &[u8],
     bootstrap: &[u8],
     ram: &[u8],
@@ -61,7 +62,7 @@ pub fn decide(
         return trapped(core, INT, 0);
     }
     match fetch(core, rows, pages, execution, bootstrap, ram) {
-        Fetched::Word(word) => execute(word, core, regs, rows, pages, execution, bootstrap, ram),
-        Fetched::Refused(code, miss) => refused(core, code, miss, core.pc),
+        Ok(word) => execute(word, core, regs, rows, pages, execution, bootstrap, ram),
+        Err(fault) => refused(core, fault, core.pc),
     }
 }

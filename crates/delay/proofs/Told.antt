@@ -1,10 +1,10 @@
 -- After any step the flag is 1 exactly if the step executed a branch or jump, and the address is then its PC.
+use Rattle.std.specs.Prelude.{Result, Ok, Err}
 use Prim.Native.Nat.{ℕ}
 use mathlib.Core.Path.{◌≡◌, refl, ap, ◌∙◌}
 use mathlib.Core.Bool.{Bool, true, false, cond}
 use mathlib.Core.List.{List}
-use Rattle.alu.specs.declared.sum.Added.{Added}
-use Rattle.alu.specs.declared.sum.Added.TheVariants.{Sum, Overflow}
+use Rattle.std.proofs.Common.{Option, Some, None}
 use Rattle.isa.specs.Opcode.{decode_of}
 use Rattle.isa.specs.declared.instr.Control.{Control}
 use Rattle.isa.specs.declared.instr.Control.TheVariants.{Undefined, Mfc0, Mtc0, Tlbr, Tlbwi, Tlbwr, Tlbp, Rfe}
@@ -17,8 +17,8 @@ use Rattle.board.specs.declared.places.Sizes.{Sizes}
 use Rattle.cp0.specs.Interrupt.{interrupts_of}
 use Rattle.cp0.specs.Privilege.{usable_of}
 use Rattle.tlb.specs.declared.Row.{Row}
-use Rattle.reach.specs.declared.Reached.{Reached}
-use Rattle.reach.specs.declared.Reached.TheVariants.{Lands, Exception}
+use Rattle.reach.specs.declared.Fault.{Fault}
+use Rattle.board.specs.declared.places.Place.{Place}
 use Rattle.reach.specs.declared.access.Kind.TheVariants.{Fetch}
 use Rattle.reach.specs.declared.access.Width.TheVariants.{Four}
 use Rattle.state.specs.declared.machine.Core.{Core}
@@ -62,18 +62,18 @@ module _ (core : Core) (regs : List ℕ) (t : List Row) (lent : Lent) where
   settled (intent.Write d v) = refl
   settled (intent.Branch d v next) = refl
   settled (intent.HiLo hi lo) = refl
-  settled (intent.Load op d va (Lands place)) = refl
-  settled (intent.Load op d va (Exception miss code)) = refl
-  settled (intent.Store op x va (Lands place)) = refl
-  settled (intent.Store op x va (Exception miss code)) = refl
+  settled (intent.Load op d va (Ok place)) = refl
+  settled (intent.Load op d va (Err fault)) = refl
+  settled (intent.Store op x va (Ok place)) = refl
+  settled (intent.Store op x va (Err fault)) = refl
   settled (intent.SetControl r word) = refl
   settled (intent.SetEntry row) = refl
   settled (intent.SetRow i row) = refl
   settled (intent.Trap code coprocessor) = refl
 
-  summed : (a : Added) (d : ℕ) → is_to (summed_of a d) ≡ false
-  summed (Sum v) d = refl
-  summed Overflow d = refl
+  summed : (a : Option ℕ) (d : ℕ) → is_to (summed_of a d) ≡ false
+  summed (Some v) d = refl
+  summed None d = refl
 
   jumps : (op : JumpOp) (target : ℕ) → is_to (jumps_of op core target) ≡ true
   jumps J target = refl
@@ -121,19 +121,19 @@ module _ (core : Core) (regs : List ℕ) (t : List Row) (lent : Lent) where
   intends (Store op rt base offset) = refl
   intends (instr.Control control) = controls control
 
-  fetched : (r : Reached) → (fetched_of core regs t lent r).branched ≡ fetched_branch (answered lent r)
+  fetched : (r : Result Place Fault) → (fetched_of core regs t lent r).branched ≡ fetched_branch (answered lent r)
   unfolding execute_of
-  fetched (Lands place) =
+  fetched (Ok place) =
       let word = word_in lent place in
       settled (intend_of core regs t (sizes_of lent) (decode_of word)) ∙ intends (decode_of word)
-  fetched (Exception miss code) = refl
+  fetched (Err fault) = refl
 
   decided : (decide_of core regs t lent).branched
       ≡ cond (interrupts_of core.cp0.status core.cp0.cause) false (fetched_branch (fetch_of core t lent))
   unfolding decide_of fetch_of
   decided = by (interrupts_of core.cp0.status core.cp0.cause) (reached_of Fetch Four core.cp0 t (sizes_of lent) core.pc)
     where
-      by : (entry : Bool) (r : Reached) →
+      by : (entry : Bool) (r : Result Place Fault) →
           (cond entry (trapped_of core code_int 0) (fetched_of core regs t lent r)).branched ≡ cond entry false (fetched_branch (answered lent r))
       by true r = refl
       by false r = fetched r

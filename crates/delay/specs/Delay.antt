@@ -1,6 +1,6 @@
 -- Document 02, L2: "A slot is the step after any executed branch or jump, taken or not." Said of the instruction, and not of what deciding it hands on; and what an
 -- exception in a slot keeps, so that the kernel can go back to the branch.
-use Rattle.std.specs.Prelude.{ℕ, Bool, true, false, cond, List, [], ◌∷◌, ◌≡◌}
+use Rattle.std.specs.Prelude.{ℕ, Bool, true, false, cond, List, [], ◌∷◌, ◌≡◌, Result, Ok, Err}
 use Rattle.word.specs.Map.{bit}
 use Rattle.isa.specs.Opcode.{decode_of}
 use Rattle.isa.specs.declared.instr.Instr.{Instr}
@@ -9,8 +9,7 @@ use Rattle.isa.specs.declared.instr.Instr.TheVariants as instr
 use Rattle.cp0.specs.Interrupt.{interrupts_of}
 use Rattle.intend.specs.Operand.{reg_of}
 use Rattle.decide.specs.Fetch.{fetch_of}
-use Rattle.decide.specs.declared.fetch.Fetched.{Fetched}
-use Rattle.decide.specs.declared.fetch.Fetched.TheVariants.{Word, Refused}
+use Rattle.reach.specs.declared.Fault.{Fault}
 use Rattle.step.specs.World.{World, Roms, lent_in}
 use Rattle.step.specs.Tick.{tick_of}
 use Rattle.step.specs.Step.{step_of}
@@ -38,9 +37,9 @@ is_branch (Load op rt base offset) = false
 is_branch (Store op rt base offset) = false
 is_branch (instr.Control control) = false
 
-abbrev pub fetched_branch : Fetched → Bool
-fetched_branch (Word word) = is_branch (decode_of word)
-fetched_branch (Refused code miss) = false
+abbrev pub fetched_branch : Result ℕ Fault → Bool
+fetched_branch (Ok word) = is_branch (decode_of word)
+fetched_branch (Err fault) = false
 
 -- the step from here executes a branch or jump: it is no interrupt entry, and its fetch gives the word of one
 abbrev pub branches_of : Roms → World → Bool

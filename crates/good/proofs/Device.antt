@@ -16,7 +16,8 @@ use Rattle.bus.specs.Store.{register_write, bus_write_of}
 use Rattle.bus.specs.Stored.{line_stored, clock_stored, timer_line, InLine}
 use Rattle.bus.specs.Words.{bus_table, registers_of, bus_word_of}
 use Rattle.bus.specs.declared.store.Store.{Store}
-use Rattle.bus.specs.declared.store.Store.TheVariants.{Nothing, Timer, Command, Data}
+use Rattle.bus.specs.declared.store.Store.TheVariants.{Timer, Command, Data}
+use Rattle.std.proofs.Common.{Option, Some, None}
 use Rattle.bus.proofs.Stores.{store_keeps}
 use Rattle.cp0.specs.Registers.{with_register}
 use Rattle.printer.specs.Tick.{no_printer}
@@ -68,11 +69,11 @@ module _ (sizes : Sizes) (b : Board) {room : ℕ} (count : Countable sizes) (s :
 
 -- ---- stores
 
-abbrev pub SmallStore : Store → Type 0
-SmallStore Nothing = Unit {0}
-SmallStore (Timer word) = word < 2 ^ 32
-SmallStore (Command n word) = word < 2 ^ 32
-SmallStore (Data n word) = word < 2 ^ 32
+abbrev pub SmallStore : Option Store → Type 0
+SmallStore None = Unit {0}
+SmallStore (Some (Timer word)) = word < 2 ^ 32
+SmallStore (Some (Command n word)) = word < 2 ^ 32
+SmallStore (Some (Data n word)) = word < 2 ^ 32
 
 pub small_store : (offset word : ℕ) → word < 2 ^ 32 → SmallStore (bus_write_of offset word)
 unfolding bus_write_of
@@ -90,23 +91,23 @@ some_delay scale delay installed e =
     leb-true 1 delay (both (leb 1 delay) (leb delay 65535) g).0
 
 module _ (b : Board) {room : ℕ} (s : BoardSound b room) where
-  clock_stored_lem : (store : Store) → SmallStore store → Below (2 ^ 32) (clock_words (clock_stored store b.clock))
-  clock_stored_lem Nothing h = s.clock
-  clock_stored_lem (Timer word) h =
+  clock_stored_lem : (store : Option Store) → SmallStore store → Below (2 ^ 32) (clock_words (clock_stored store b.clock))
+  clock_stored_lem None h = s.clock
+  clock_stored_lem (Some (Timer word)) h =
       let old = below_each (clock_words b.clock) s.clock in
-      each_below (clock_words (clock_stored (Timer word) b.clock)) (old.0, (old.1.0, (h, tt)))
-  clock_stored_lem (Command n word) h = s.clock
-  clock_stored_lem (Data n word) h = s.clock
+      each_below (clock_words (clock_stored (Some (Timer word)) b.clock)) (old.0, (old.1.0, (h, tt)))
+  clock_stored_lem (Some (Command n word)) h = s.clock
+  clock_stored_lem (Some (Data n word)) h = s.clock
 
-  words_stored : (store : Store) → InLine store → SmallStore store →
+  words_stored : (store : Option Store) → InLine store → SmallStore store →
       LineWords (line_stored b.settings.installed b.settings.delay store b.line)
-  words_stored Nothing n h = s.words
-  words_stored (Timer word) n h = s.words
-  words_stored (Command k word) n h =
+  words_stored None n h = s.words
+  words_stored (Some (Timer word)) n h = s.words
+  words_stored (Some (Command k word)) n h =
       command_words b.line s.words s.line.eight k n b.settings.installed b.settings.delay word (s.settings 1 (omega arith)) h
-  words_stored (Data k word) n h = data_words b.line s.words s.line.eight k n b.settings.installed word h
+  words_stored (Some (Data k word)) n h = data_words b.line s.words s.line.eight k n b.settings.installed word h
 
-  pub board_stored_lem : (store : Store) → InLine store → SmallStore store → BoardSound (board_stored store b) room
+  pub board_stored_lem : (store : Option Store) → InLine store → SmallStore store → BoardSound (board_stored store b) room
   board_stored_lem store n h =
       let set = b.settings in
       record {
@@ -117,13 +118,13 @@ module _ (b : Board) {room : ℕ} (s : BoardSound b room) where
         line = store_keeps set.installed set.delay room store b.line n (some_delay set.scale set.delay set.installed s.ranges) s.line;
       }
 
-timer_line_lem : (store : Store) {cause : ℕ} → Steady cause → Steady (timer_line store cause)
-timer_line_lem Nothing s = s
-timer_line_lem (Timer word) s = timer_steady false s
-timer_line_lem (Command n word) s = s
-timer_line_lem (Data n word) s = s
+timer_line_lem : (store : Option Store) {cause : ℕ} → Steady cause → Steady (timer_line store cause)
+timer_line_lem None s = s
+timer_line_lem (Some (Timer word)) s = timer_steady false s
+timer_line_lem (Some (Command n word)) s = s
+timer_line_lem (Some (Data n word)) s = s
 
-pub lines_stored_lem : (store : Store) (next : ℕ) {c : Core} {pending : ℕ} → CoreSound c pending → CoreSound (with_cp0 (lines_stored store next c.cp0) c) next
+pub lines_stored_lem : (store : Option Store) (next : ℕ) {c : Core} {pending : ℕ} → CoreSound c pending → CoreSound (with_cp0 (lines_stored store next c.cp0) c) next
 unfolding with_register
 lines_stored_lem store next {c} s =
     let g = control_good s in

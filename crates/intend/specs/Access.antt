@@ -1,5 +1,5 @@
 -- Loads and stores: the virtual address is the base and the offset, extended by its sign, modulo 2^32; then document 01, "Addresses".
-use Rattle.std.specs.Prelude.{ℕ, Bool, List}
+use Rattle.std.specs.Prelude.{ℕ, Bool, List, Result}
 use Rattle.alu.specs.Sum.{addiu_of}
 use Rattle.isa.specs.declared.instr.LoadOp.{LoadOp}
 use Rattle.isa.specs.declared.instr.LoadOp.TheVariants.{Lb, Lh, Lwl, Lw, Lbu, Lhu, Lwr}
@@ -10,7 +10,8 @@ use Rattle.cp0.specs.Privilege.{mode_of}
 use Rattle.cp0.specs.declared.registers.Cp0.{Cp0}
 use Rattle.tlb.specs.declared.Row.{Row}
 use Rattle.reach.specs.Reach.{reach_of, meets_two}
-use Rattle.reach.specs.declared.Reached.{Reached}
+use Rattle.reach.specs.declared.Fault.{Fault}
+use Rattle.board.specs.declared.places.Place.{Place}
 use Rattle.reach.specs.declared.access.Kind.{Kind}
 use Rattle.reach.specs.declared.access.Kind.TheVariants as kind
 use Rattle.reach.specs.declared.access.Width.{Width}
@@ -35,7 +36,7 @@ store_width Sw = Four
 store_width Swr = Part
 
 -- the answer under Status and EntryHi as they are
-unfoldable pub reached_of : Kind → Width → Cp0 → List Row → Sizes → ℕ → Reached
+unfoldable pub reached_of : Kind → Width → Cp0 → List Row → Sizes → ℕ → Result Place Fault
 reached_of kind width cp0 t sizes va =
     reach_of (mode_of cp0.status) (record { kind = kind; width = width }) sizes va t cp0.entry_hi
 

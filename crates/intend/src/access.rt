@@ -12,7 +12,7 @@ use board::places::{Place, RAM, Sizes};
 use cp0::privilege::mode_of;
 use cp0::registers::Cp0;
 use isa::instr::{LoadOp, StoreOp};
-use pages::{near, place};
+use pages::{Pages, near, place};
 use reach::Reached;
 use reach::access::{Access, Kind, Width};
 use reach::plain::plain;
@@ -22,13 +22,10 @@ pub fn load_width(op: LoadOp) -> Width
     ensures { result ≡ load_width op }
 {
     match op {
-        LoadOp::Lb => Width::One,
-        LoadOp::Lh => Width::Two,
-        LoadOp::Lwl => Width::Part,
+        LoadOp::Lb | LoadOp::Lbu => Width::One,
+        LoadOp::Lh | LoadOp::Lhu => Width::Two,
         LoadOp::Lw => Width::Four,
-        LoadOp::Lbu => Width::One,
-        LoadOp::Lhu => Width::Two,
-        LoadOp::Lwr => Width::Part,
+        LoadOp::Lwl | LoadOp::Lwr => Width::Part,
     }
 }
 
@@ -38,9 +35,8 @@ pub fn store_width(op: StoreOp) -> Width
     match op {
         StoreOp::Sb => Width::One,
         StoreOp::Sh => Width::Two,
-        StoreOp::Swl => Width::Part,
         StoreOp::Sw => Width::Four,
-        StoreOp::Swr => Width::Part,
+        StoreOp::Swl | StoreOp::Swr => Width::Part,
     }
 }
 
@@ -67,7 +63,7 @@ pub fn load(
     cp0: Cp0,
     regs: &[u32; 32],
     rows: [Row; 16],
-    pages: &[u32; 5],
+    pages: &Pages,
     sizes: Sizes,
 ) -> Intent
     requires holds_zero { HoldsZero regs.now }
@@ -77,15 +73,16 @@ pub fn load(
     let va = addiu(reg(regs, base), offset);
     let width = load_width(op);
     if plain(cp0.status, width, sizes.ram, va) {
-        return Intent::Load(op, rt, va, Reached::Lands(Place::Ram(va - RAM)));
+        return Intent::Load(op, rt, va, Ok(Place::Ram(va - RAM)));
     }
-    if near(pages[2], width, cp0.status, cp0.entry_hi, va) {
-        return Intent::Load(op, rt, va, Reached::Lands(Place::Ram(place(pages[3], va))));
+    if let Some(page) = near(pages.accesses, width, cp0.status, cp0.entry_hi, va) {
+        return Intent::Load(op, rt, va, Ok(Place::Ram(place(page.frame, va))));
     }
     let answer = reached(Kind::Load, width, cp0, rows, sizes, va);
     Intent::Load(op, rt, va, answer)
 }
 
+// Stays: (b) beside `load` and not one function with it: a function that two call is no longer laid into the loop (docs/SPEED.md, "What costs is not the work").
 pub fn store(
     op: StoreOp,
     rt: u32,
@@ -94,7 +91,7 @@ pub fn store(
     cp0: Cp0,
     regs: &[u32; 32],
     rows: [Row; 16],
-    pages: &[u32; 5],
+    pages: &Pages,
     sizes: Sizes,
 ) -> Intent
     requires holds_zero { HoldsZero regs.now }
@@ -104,15 +101,14 @@ pub fn store(
     let va = addiu(reg(regs, base), offset);
     let width = store_width(op);
     if plain(cp0.status, width, sizes.ram, va) {
-        return Intent::Store(op, reg(regs, rt), va, Reached::Lands(Place::Ram(va - RAM)));
+        return Intent::Store(op, reg(regs, rt), va, Ok(Place::Ram(va - RAM)));
     }
-    if near(pages[2], width, cp0.status, cp0.entry_hi, va) & (pages[4] == 1) {
-        return Intent::Store(
-            op,
-            reg(regs, rt),
-            va,
-            Reached::Lands(Place::Ram(place(pages[3], va))),
-        );
+    match near(pages.accesses, width, cp0.status, cp0.entry_hi, va) {
+        Some(page) if page.dirty => {
+            let place = Place::Ram(place(page.frame, va));
+            return Intent::Store(op, reg(regs, rt), va, Ok(place));
+        }
+        _ => {}
     }
     let answer = reached(Kind::Store, width, cp0, rows, sizes, va);
     Intent::Store(op, reg(regs, rt), va, answer)

@@ -3,6 +3,7 @@ use isa::instr::{ControlRegister, LoadOp, StoreOp};
 use reach::Reached;
 use tlb::Row;
 
+// Stays: (d) a register is a number and 0 is none: the machine writes no register 0, and an Option would say so twice.
 #[derive(Clone, Copy)]
 pub enum Intent {
     Write(u32, u32), // register (0: none), its value

@@ -14,6 +14,7 @@ use crate::operand::reg;
 use alu::logic::lui;
 use board::places::Sizes;
 use isa::instr::Instr;
+use pages::Pages;
 use state::machine::Core;
 use tlb::Row;
 
@@ -31,7 +32,7 @@ pub fn intend(
     core: Core,
     regs: &[u32; 32],
     rows: [Row; 16],
-    pages: &[u32; 5],
+    pages: &Pages,
     sizes: Sizes,
 ) -> Intent
     requires holds_zero { HoldsZero regs.now }

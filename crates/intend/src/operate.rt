@@ -7,7 +7,6 @@ ghost use Rattle.intend.specs.Operate.{shift_of, register_of, immediate_of, summ
 use crate::codes::OV;
 use crate::intent::Intent;
 use crate::operand::reg;
-use alu::sum::Added;
 use alu::{logic, shift, sum};
 use isa::instr::{ImmediateOp, RegisterOp, ShiftOp};
 
@@ -21,43 +20,43 @@ fn shifted(op: ShiftOp, x: u32, by: u32) -> u32
     }
 }
 
-fn by_register(op: RegisterOp, x: u32, y: u32) -> Added
+fn by_register(op: RegisterOp, x: u32, y: u32) -> Option<u32>
     ensures { result ≡ register_of op x y }
 {
     match op {
         RegisterOp::Add => sum::add(x, y),
-        RegisterOp::Addu => Added::Sum(sum::addu(x, y)),
+        RegisterOp::Addu => Some(sum::addu(x, y)),
         RegisterOp::Sub => sum::sub(x, y),
-        RegisterOp::Subu => Added::Sum(sum::subu(x, y)),
-        RegisterOp::And => Added::Sum(logic::and(x, y)),
-        RegisterOp::Or => Added::Sum(logic::or(x, y)),
-        RegisterOp::Xor => Added::Sum(logic::xor(x, y)),
-        RegisterOp::Nor => Added::Sum(logic::nor(x, y)),
-        RegisterOp::Slt => Added::Sum(sum::slt(x, y)),
-        RegisterOp::Sltu => Added::Sum(sum::sltu(x, y)),
+        RegisterOp::Subu => Some(sum::subu(x, y)),
+        RegisterOp::And => Some(logic::and(x, y)),
+        RegisterOp::Or => Some(logic::or(x, y)),
+        RegisterOp::Xor => Some(logic::xor(x, y)),
+        RegisterOp::Nor => Some(logic::nor(x, y)),
+        RegisterOp::Slt => Some(sum::slt(x, y)),
+        RegisterOp::Sltu => Some(sum::sltu(x, y)),
     }
 }
 
-fn by_immediate(op: ImmediateOp, x: u32, imm: u32) -> Added
+fn by_immediate(op: ImmediateOp, x: u32, imm: u32) -> Option<u32>
     ensures { result ≡ immediate_of op x imm }
 {
     match op {
         ImmediateOp::Addi => sum::addi(x, imm),
-        ImmediateOp::Addiu => Added::Sum(sum::addiu(x, imm)),
-        ImmediateOp::Slti => Added::Sum(sum::slti(x, imm)),
-        ImmediateOp::Sltiu => Added::Sum(sum::sltiu(x, imm)),
-        ImmediateOp::Andi => Added::Sum(logic::andi(x, imm)),
-        ImmediateOp::Ori => Added::Sum(logic::ori(x, imm)),
-        ImmediateOp::Xori => Added::Sum(logic::xori(x, imm)),
+        ImmediateOp::Addiu => Some(sum::addiu(x, imm)),
+        ImmediateOp::Slti => Some(sum::slti(x, imm)),
+        ImmediateOp::Sltiu => Some(sum::sltiu(x, imm)),
+        ImmediateOp::Andi => Some(logic::andi(x, imm)),
+        ImmediateOp::Ori => Some(logic::ori(x, imm)),
+        ImmediateOp::Xori => Some(logic::xori(x, imm)),
     }
 }
 
-fn summed(sum: Added, d: u32) -> Intent
+fn summed(sum: Option<u32>, d: u32) -> Intent
     ensures { result ≡ summed_of sum d }
 {
     match sum {
-        Added::Sum(v) => Intent::Write(d, v),
-        Added::Overflow => Intent::Trap(OV, 0),
+        Some(v) => Intent::Write(d, v),
+        None => Intent::Trap(OV, 0),
     }
 }
 

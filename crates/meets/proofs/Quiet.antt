@@ -1,4 +1,5 @@
 -- Below 2^31 no word is a load or a store, so that it meets no two matches; and in a table that is not doubled no step does.
+use Rattle.std.specs.Prelude.{Result, Ok, Err}
 use Prim.Native.Nat.{ℕ, zero, suc, ◌^◌, ◌<◌}
 use mathlib.Core.Path.{◌≡◌, refl}
 use mathlib.Core.Bool.{Bool, cond, true, false, ◌&&◌, false≢true}
@@ -32,8 +33,7 @@ use Rattle.intend.specs.Access.{load_width, store_width, twice_of}
 use Rattle.decide.specs.Lent.{Lent}
 use Rattle.decide.specs.Fetch.{fetch_of}
 use Rattle.meets.specs.Meets.{access_meets_two, fetched_meets_two, meets_two_of}
-use Rattle.decide.specs.declared.fetch.Fetched.{Fetched}
-use Rattle.decide.specs.declared.fetch.Fetched.TheVariants.{Word, Refused}
+use Rattle.reach.specs.declared.Fault.{Fault}
 
 -- ---- the table of opcodes
 
@@ -129,9 +129,9 @@ module _ (cp0 : Cp0) (regs : List ℕ) (t : List Row) where
     access_one (LoadUpper d imm) = refl
     access_one (instr.Control control) = refl
 
-    fetched_one : (f : Fetched) → fetched_meets_two cp0 regs t f ≡ false
-    fetched_one (Word word) = access_one (decode_of word)
-    fetched_one (Refused code miss) = refl
+    fetched_one : (f : Result ℕ Fault) → fetched_meets_two cp0 regs t f ≡ false
+    fetched_one (Ok word) = access_one (decode_of word)
+    fetched_one (Err fault) = refl
 
 either : (b : Bool) → cond b false false ≡ false
 either true = refl

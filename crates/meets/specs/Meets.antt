@@ -1,6 +1,6 @@
 -- Document 02, L5: "If a fetch, load or store meets two matches". Decided in the order of the step: "A step that would be interrupt entry fetches nothing"; then the fetch;
 -- then, if it gave a word, the load or store that the word is. Every other word makes no access, and a fetch that raises is an exception.
-use Rattle.std.specs.Prelude.{ℕ, Bool, cond, false, ◌||◌, List}
+use Rattle.std.specs.Prelude.{ℕ, Bool, cond, false, ◌||◌, List, Result, Ok, Err}
 use Rattle.alu.specs.Sum.{addiu_of}
 use Rattle.isa.specs.Opcode.{decode_of}
 use Rattle.isa.specs.declared.instr.Instr.{Instr}
@@ -16,8 +16,7 @@ use Rattle.intend.specs.Operand.{reg_of}
 use Rattle.intend.specs.Access.{load_width, store_width, twice_of}
 use Rattle.decide.specs.Lent.{Lent}
 use Rattle.decide.specs.Fetch.{fetch_of}
-use Rattle.decide.specs.declared.fetch.Fetched.{Fetched}
-use Rattle.decide.specs.declared.fetch.Fetched.TheVariants.{Word, Refused}
+use Rattle.reach.specs.declared.Fault.{Fault}
 
 -- t is the translation table
 module _ (cp0 : Cp0) (regs : List ℕ) (t : List Row) where
@@ -43,9 +42,9 @@ module _ (cp0 : Cp0) (regs : List ℕ) (t : List Row) where
   access_meets_two (LoadUpper rt imm) = false
   access_meets_two (instr.Control control) = false
 
-  abbrev pub fetched_meets_two : Fetched → Bool
-  fetched_meets_two (Word word) = access_meets_two (decode_of word)
-  fetched_meets_two (Refused code miss) = false
+  abbrev pub fetched_meets_two : Result ℕ Fault → Bool
+  fetched_meets_two (Ok word) = access_meets_two (decode_of word)
+  fetched_meets_two (Err fault) = false
 
 -- core is as the tick left it
 unfoldable pub meets_two_of : Core → List ℕ → List Row → Lent → Bool

@@ -12,11 +12,12 @@ use alu::sum::addiu;
 use cp0::interrupt::interrupts;
 use cp0::privilege::mode_of;
 use cp0::registers::Cp0;
-use decide::fetch::{Fetched, fetch_slow};
+use decide::fetch::fetch_slow;
 use intend::access::{load_width, store_width};
 use intend::operand::reg;
 use isa::decode::memory;
 use isa::instr::Instr;
+use reach::Fault;
 use reach::access::{Access, Kind, Width};
 use state::machine::Core;
 use tlb::Row;
@@ -47,24 +48,7 @@ fn by_instr(instr: Instr, cp0: Cp0, regs: &[u32; 32], rows: [Row; 16]) -> bool
             cp0,
             rows,
         ),
-        Instr::Reserved => false,
-        Instr::Unusable(_) => false,
-        Instr::Syscall => false,
-        Instr::Break => false,
-        Instr::Shift(_, _, _, _) => false,
-        Instr::ShiftBy(_, _, _, _) => false,
-        Instr::Register(_, _, _, _) => false,
-        Instr::Product(_, _, _) => false,
-        Instr::MoveFrom(_, _) => false,
-        Instr::MoveTo(_, _) => false,
-        Instr::JumpRegister(_) => false,
-        Instr::JumpLinkRegister(_, _) => false,
-        Instr::Jump(_, _) => false,
-        Instr::Compare(_, _, _, _) => false,
-        Instr::Sign(_, _, _) => false,
-        Instr::Immediate(_, _, _, _) => false,
-        Instr::LoadUpper(_, _) => false,
-        Instr::Control(_) => false,
+        _ => false,
     }
 }
 
@@ -79,17 +63,18 @@ fn by_word(word: u32, cp0: Cp0, regs: &[u32; 32], rows: [Row; 16]) -> bool
     by_instr(memory(word), cp0, regs, rows)
 }
 
-fn by_fetched(fetched: Fetched, cp0: Cp0, regs: &[u32; 32], rows: [Row; 16]) -> bool
+fn by_fetched(fetched: Result<u32, Fault>, cp0: Cp0, regs: &[u32; 32], rows: [Row; 16]) -> bool
     requires { HoldsZero regs.now }
     ensures { result ≡ fetched_meets_two cp0 regs.now rows fetched }
 {
     match fetched {
-        Fetched::Word(word) => by_word(word, cp0, regs, rows),
-        Fetched::Refused(_, _) => false,
+        Ok(word) => by_word(word, cp0, regs, rows),
+        Err(_) => false,
     }
 }
 
 // `core` is as the tick will leave it.
+#[tactic(auto, unfolding(crate::specs::Meets::meets_two_of))]
 pub fn meets_two(
     core: Core,
     regs: &[u32; 32],

@@ -1,57 +1,35 @@
 -- What is remembered stays true where a page is remembered anew, and where all is forgotten.
-use mathlib.Core.Path.{◌≡◌, refl}
-use mathlib.Core.List.{List, [], ◌∷◌}
-use mathlib.Core.Logic.{◌⊎◌, inl, inr}
+use mathlib.Core.Path.{◌≡◌, sym, subst}
+use mathlib.Core.Bool.{true}
+use mathlib.Core.List.{List}
 use Prim.Native.Nat.{ℕ, ◌+◌, ◌≤◌}
-use native.Mathlib.Omega.{arith}
-use lib.ListN.{length, get_or, set}
+use lib.Dec.{eqb}
+use Rattle.std.specs.Prelude.{Option, Some, None}
+use Rattle.std.specs.Option.{option_or}
+use Rattle.std.proofs.lemmas.Option.{none-some, cond_some}
 use Rattle.tlb.specs.declared.Row.{Row}
-use Rattle.pages.specs.Pages.{key_of, page_of, frame_of, dirty_of, Told, Known, Inside}
-use Rattle.pages.proofs.Lands.{key_some, kept_inside}
+use Rattle.pages.specs.Pages.{page_of, with_key, Told, Known, Holds, Inside}
+use Rattle.pages.specs.declared.Page.{Page}
+use Rattle.pages.specs.declared.Pages.{Pages}
+use Rattle.pages.proofs.Lands.{page_kept, kept_inside}
 
-record Five (p : List ℕ) : Type 0 where
-  a : ℕ
-  b : ℕ
-  c : ℕ
-  d : ℕ
-  e : ℕ
-  is : p ≡ a ∷ b ∷ c ∷ d ∷ e ∷ []
+-- what is worked out, or else what was known
+pub told_anew : (key : ℕ) (t : List Row) (ram : ℕ) (known made : Option Page) → made ≡ page_of key t ram → Told known t ram → Told (option_or made known) t ram
+told_anew key t ram known (Some page) e told = page_kept key t ram (sym e)
+told_anew key t ram known None e told = told
 
-five : (p : List ℕ) → length p ≡ 5 → Five p
-five [] h = absurd (omega (arith, h))
-five (a ∷ []) h = absurd (omega (arith, h))
-five (a ∷ b ∷ []) h = absurd (omega (arith, h))
-five (a ∷ b ∷ c ∷ []) h = absurd (omega (arith, h))
-five (a ∷ b ∷ c ∷ d ∷ []) h = absurd (omega (arith, h))
-five (a ∷ b ∷ c ∷ d ∷ e ∷ []) h = record { a = a; b = b; c = c; d = d; e = e; is = refl }
-five (a ∷ b ∷ c ∷ d ∷ e ∷ f ∷ rest) h = absurd (omega (arith, h))
-
-module _ (t : List Row) (ram key : ℕ) (some : 1 ≤ page_of key t ram) where
-  code_words : (a b c d e : ℕ) → Known (a ∷ b ∷ c ∷ d ∷ e ∷ []) t ram → Known (key ∷ frame_of (page_of key t ram) ∷ c ∷ d ∷ e ∷ []) t ram
-  code_words a b c d e k = record { five = refl; fetches = inr (record { some = some; place = refl }); accesses = k.accesses; dirty = k.dirty }
-
-  data_words : (a b c d e : ℕ) → Known (a ∷ b ∷ c ∷ d ∷ e ∷ []) t ram →
-      Known (a ∷ b ∷ key ∷ frame_of (page_of key t ram) ∷ dirty_of (page_of key t ram) ∷ []) t ram
-  data_words a b c d e k = record { five = refl; fetches = k.fetches; accesses = inr (record { some = some; place = refl }); dirty = inr refl }
-
-  pub knows_code : (p : List ℕ) → Known p t ram → Known (set (set p 0 key) 1 (frame_of (page_of key t ram))) t ram
-  knows_code p k = let w = five p k.five in rw w.is (code_words w.a w.b w.c w.d w.e (rw w.is at k))
-
-  pub knows_data : (p : List ℕ) → Known p t ram → Known (set (set (set p 2 key) 3 (frame_of (page_of key t ram))) 4 (dirty_of (page_of key t ram))) t ram
-  knows_data p k = let w = five p k.five in rw w.is (data_words w.a w.b w.c w.d w.e (rw w.is at k))
+pub told_holds : (known : Option Page) (t : List Row) (ram : ℕ) → Told known t ram → Holds known ram
+told_holds (Some page) t ram k = kept_inside page t ram k
+told_holds None t ram k = tt
 
 -- nothing remembered is true of every table
-pub knows_none : (t : List Row) (ram : ℕ) → Known (0 ∷ 0 ∷ 0 ∷ 0 ∷ 0 ∷ []) t ram
-knows_none t ram = record { five = refl; fetches = inl refl; accesses = inl refl; dirty = inl refl }
+pub knows_none : (t : List Row) (ram : ℕ) → Known (record { fetches = None; accesses = None }) t ram
+knows_none t ram = record { fetches = tt; accesses = tt }
 
-told_inside : {key frame : ℕ} {t : List Row} {ram : ℕ} → Told key frame t ram → (key ≡ 0) ⊎ (frame + 4096 ≤ ram)
-told_inside (inl none) = inl none
-told_inside (inr k) = inr (kept_inside k)
+pub known_inside : {pages : Pages} {t : List Row} {ram : ℕ} → Known pages t ram → Inside pages ram
+known_inside {pages} {t} {ram} k = told_holds pages.fetches t ram k.fetches
 
-pub known_inside : {p : List ℕ} {t : List Row} {ram : ℕ} → Known p t ram → Inside p ram
-known_inside k = told_inside k.fetches
-
--- the frame of a key that an access has
-pub inside_key : (p : List ℕ) {ram : ℕ} (status entry a : ℕ) → get_or p 0 0 ≡ key_of status entry a → Inside p ram → get_or p 1 0 + 4096 ≤ ram
-inside_key p status entry a same (inl none) = let some = key_some status entry a in absurd (omega (arith, same, none, some))
-inside_key p status entry a same (inr room) = room
+-- the frame of the page of a key
+pub inside_key : (known : Option Page) (key : ℕ) {ram : ℕ} {page : Page} → with_key known key ≡ Some page → Holds known ram → page.frame + 4096 ≤ ram
+inside_key None key {page = page} h inside = absurd (none-some page h)
+inside_key (Some p) key {ram} {page} h inside = subst (λ (x : Page). x.frame + 4096 ≤ ram) (cond_some (eqb p.key key) p page h).1 inside

@@ -2,52 +2,64 @@
 // old one behind. Its key holds page, ASID and mode, so that a change of any of them cannot meet it; only a write to the table makes it untrue.
 #![tactic(auto)]
 
-ghost use Rattle.std.specs.Prelude.{◌≡◌, ◌+◌, ◌%◌, ◌<◌, ◌≤◌, length, get_or};
-ghost use Rattle.pages.specs.Pages.{key_of, in_ram, single_in, is_open, page_of, is_near, Known, Inside};
+ghost use Rattle.std.specs.Prelude.{◌≡◌, ◌+◌, ◌%◌, ◌<◌, ◌≤◌, length};
+ghost use Rattle.pages.specs.Pages.{
+  key_of,
+  in_ram,
+  single_in,
+  is_open,
+  page_of,
+  is_near,
+  with_key,
+  near_of,
+  Told,
+  Known,
+  Inside,
+};
 
 use alu::sum::addiu;
 use board::places::RAM;
 use reach::access::Width;
 use reach::check::aligned;
-use tlb::{Found, Row};
+use tlb::{Hit, Row};
 use word::map::has_bit;
 
-// All that the answer for a translated address goes by, beside the table and the place in the page. It is never 0.
+// A page that is remembered: what it is known by, where its frame begins in RAM, and D.
+#[derive(Clone, Copy)]
+pub struct Page {
+    pub key: u32,
+    pub frame: u32,
+    pub dirty: bool,
+}
+
+#[derive(Clone, Copy)]
+pub struct Pages {
+    pub fetches: Option<Page>,
+    pub accesses: Option<Page>,
+}
+
+// All that the answer for a translated address goes by, beside the table and the place in the page.
 pub fn key(status: u32, entry: u32, a: u32) -> u32
     ensures { result ≡ key_of status entry a }
 {
     a / 4096 * 4096 + entry / 64 % 64 * 64 + status / 2 % 2 * 2 + 1
 }
 
-// An EntryLo with V on whose frame RAM holds; 0 stands for none.
-fn in_ram(low: u32, ram: u32) -> u32
+// An EntryLo with V on whose frame RAM holds.
+#[tactic(auto, unfolding(crate::specs::Pages::in_ram))]
+fn in_ram(low: u32, ram: u32) -> bool
     ensures { result ≡ in_ram low ram }
 {
-    if low < RAM {
-        return 0;
-    }
-    if !has_bit(9, low) {
-        return 0;
-    }
-    if (low - RAM) / 4096 < ram / 4096 {
-        return low;
-    }
-    0
+    RAM <= low && has_bit(9, low) && (low - RAM) / 4096 < ram / 4096
 }
 
-// Only a page with a single match is remembered (L5).
-fn single(found: Found, rows: [Row; 16], ram: u32) -> u32
-    ensures { result ≡ single_in found rows ram }
+// The EntryLo of a single match: only such a page is remembered (L5).
+fn single(found: Option<Hit>, rows: [Row; 16]) -> Option<u32>
+    ensures { result ≡ single_in found rows }
 {
     match found {
-        Found::At(i, second) => {
-            if second {
-                return 0;
-            }
-            let row = tlb::read(rows, i);
-            in_ram(row.low, ram)
-        }
-        Found::Nothing => 0,
+        Some(Hit { at, twice: false }) => Some(tlb::read(rows, at).low),
+        _ => None,
     }
 }
 
@@ -55,66 +67,63 @@ fn single(found: Found, rows: [Row; 16], ram: u32) -> u32
 fn is_open(key: u32) -> bool
     ensures { result ≡ is_open key }
 {
-    if key < 0x2000_0000 {
-        return false;
-    }
-    if !has_bit(1, key) {
-        return true;
-    }
-    0x8000_0000 <= key
+    0x2000_0000 <= key && (!has_bit(1, key) || 0x8000_0000 <= key)
 }
 
-fn page(key: u32, rows: [Row; 16], ram: u32) -> u32
+// What is to be remembered of a key's page.
+#[tactic(auto, unfolding(crate::specs::Pages::page_of))]
+fn lookup(key: u32, rows: [Row; 16], ram: u32) -> Option<Page>
     ensures { result ≡ page_of key rows ram }
 {
     if !is_open(key) {
-        return 0;
+        return None;
     }
-    single(tlb::search(rows, key), rows, ram)
+    let low = single(tlb::search(rows, key), rows)?;
+    if !in_ram(low, ram) {
+        return None;
+    }
+    Some(Page {
+        key,
+        frame: low / 4096 * 4096 - RAM,
+        dirty: has_bit(10, low),
+    })
 }
 
-fn remember_code(pages: &mut [u32; 5], key: u32, rows: [Row; 16], ram: u32)
-    requires { Known pages.old rows ram }
-    ensures { Known pages.new rows ram }
+// The page, if it is the one of the key.
+fn with_key(known: Option<Page>, key: u32) -> Option<Page>
+    ensures { result ≡ with_key known key }
 {
-    if pages[0] == key {
-        return;
+    match known {
+        Some(page) if page.key == key => known,
+        _ => None,
     }
-    let low = page(key, rows, ram);
-    if low == 0 {
-        return;
-    }
-    pages[0] = key;
-    pages[1] = low / 4096 * 4096 - RAM;
 }
 
-fn remember_data(pages: &mut [u32; 5], key: u32, rows: [Row; 16], ram: u32)
-    requires { Known pages.old rows ram }
-    ensures { Known pages.new rows ram }
+fn remember(known: Option<Page>, key: u32, rows: [Row; 16], ram: u32) -> Option<Page>
+    requires { Told known rows ram }
+    ensures { Told result rows ram }
 {
-    if pages[2] == key {
-        return;
+    if with_key(known, key).is_some() {
+        return known;
     }
-    let low = page(key, rows, ram);
-    if low == 0 {
-        return;
-    }
-    pages[2] = key;
-    pages[3] = low / 4096 * 4096 - RAM;
-    pages[4] = low / 1024 % 2;
+    lookup(key, rows, ram).or(known)
 }
 
-// Whether an access is to the page that `known` is the key of.
-pub fn near(known: u32, width: Width, status: u32, entry: u32, a: u32) -> bool
+#[tactic(auto, unfolding(crate::specs::Pages::is_near))]
+fn is_near(known: u32, width: Width, status: u32, entry: u32, a: u32) -> bool
     ensures { result ≡ is_near known width status entry a }
 {
-    if known != key(status, entry, a) {
-        return false;
+    known == key(status, entry, a) && has_bit(24, status) && aligned(width, a)
+}
+
+// The page that is remembered, where an access is to it.
+pub fn near(known: Option<Page>, width: Width, status: u32, entry: u32, a: u32) -> Option<Page>
+    ensures { result ≡ near_of known width status entry a }
+{
+    match known {
+        Some(page) if is_near(page.key, width, status, entry, a) => known,
+        _ => None,
     }
-    if !has_bit(24, status) {
-        return false;
-    }
-    aligned(width, a)
 }
 
 // The place in RAM of an address in the page whose frame is at `frame`.
@@ -131,30 +140,30 @@ fn data_key(status: u32, entry: u32, word: u32, regs: &[u32; 32]) -> u32 {
     key(status, entry, addiu(regs[base], word % 0x1_0000))
 }
 
-fn word_at(pages: &[u32; 5], pc: u32, ram: &[u8]) -> u32
+fn word_at(frame: u32, pc: u32, ram: &[u8]) -> u32
     requires ram_len_bound { length ram.now ≤ 4294967296 }
-    requires pages_in_bounds { get_or pages.now 1 0 + 4096 ≤ length ram.now }
+    requires frame_in_bounds { frame + 4096 ≤ length ram.now }
 {
-    memory::load_word(ram, place(pages[1], pc / 4 * 4) as usize)
+    memory::load_word(ram, place(frame, pc / 4 * 4) as usize)
 }
 
 // Whether the page of the next instruction, or of the load or store that it is, is not the one remembered.
-fn lacks(pages: &[u32; 5], status: u32, entry: u32, pc: u32, regs: &[u32; 32], ram: &[u8]) -> bool
+fn lacks(pages: &Pages, status: u32, entry: u32, pc: u32, regs: &[u32; 32], ram: &[u8]) -> bool
     requires ram_len_bound { length ram.now ≤ 4294967296 }
     requires inside { Inside pages.now (length ram.now) }
 {
-    if pages[0] != key(status, entry, pc) {
+    let Some(page) = with_key(pages.fetches, key(status, entry, pc)) else {
         return true;
-    }
-    let word = word_at(pages, pc, ram);
+    };
+    let word = word_at(page.frame, pc, ram);
     if word < 0x8000_0000 {
         return false;
     }
-    pages[2] != data_key(status, entry, word, regs)
+    with_key(pages.accesses, data_key(status, entry, word, regs)).is_none()
 }
 
 fn bring(
-    pages: &mut [u32; 5],
+    pages: &mut Pages,
     status: u32,
     entry: u32,
     pc: u32,
@@ -166,26 +175,27 @@ fn bring(
     requires known { Known pages.old rows (length ram.now) }
     ensures { Known pages.new rows (length ram.now) }
 {
+    let size = ram.len() as u32;
     let asked = key(status, entry, pc);
-    remember_code(pages, asked, rows, ram.len() as u32);
-    if pages[0] != asked {
+    pages.fetches = remember(pages.fetches, asked, rows, size);
+    let Some(page) = with_key(pages.fetches, asked) else {
         return;
-    }
-    let word = word_at(pages, pc, ram);
+    };
+    let word = word_at(page.frame, pc, ram);
     if word < 0x8000_0000 {
         return;
     }
-    remember_data(
-        pages,
+    pages.accesses = remember(
+        pages.accesses,
         data_key(status, entry, word, regs),
         rows,
-        ram.len() as u32,
+        size,
     );
 }
 
 // Before a step: the pages that it is going to ask for.
 pub fn follow(
-    pages: &mut [u32; 5],
+    pages: &mut Pages,
     status: u32,
     entry: u32,
     pc: u32,
@@ -197,8 +207,7 @@ pub fn follow(
     requires known { Known pages.old rows (length ram.now) }
     ensures { Known pages.new rows (length ram.now) }
 {
-    let translated = has_bit(24, status);
-    if !translated {
+    if !has_bit(24, status) {
         return;
     }
     if !lacks(pages, status, entry, pc, regs, ram) {

@@ -1,7 +1,7 @@
 // Not for the panel: what tests ask of the archive beside another emulator.
 #![tactic(auto)]
 
-ghost use Rattle.std.specs.Prelude.{◌≡◌, length};
+ghost use Rattle.std.specs.Prelude.{◌≡◌};
 ghost use Rattle.board.specs.Rom.{window_of};
 ghost use Rattle.rules.specs.Rules.{good_image};
 ghost use Rattle.answer.specs.Answer.{packed_of};
@@ -15,21 +15,14 @@ use rules::judged;
 fn keeps(image: &[u8], paper: usize, journal: usize) -> bool
     ensures { result ≡ good_image image.now paper journal }
 {
-    if image.len() != 741 {
-        return false;
-    }
-    let verdict = judged(image, paper, journal);
-    verdict.keeps
+    image.len() == 741 && judged(image, paper, journal).keeps
 }
 
 #[unsafe(no_mangle)]
 pub extern "C" fn lavushmir_test_rules(image: &[u8], paper: u64, journal: u64) -> u64
     ensures { result ≡ flag (good_image image.now paper journal) }
 {
-    if keeps(image, paper as usize, journal as usize) {
-        return 1;
-    }
-    0
+    u64::from(keeps(image, paper as usize, journal as usize))
 }
 
 #[unsafe(no_mangle)]
@@ -37,16 +30,6 @@ pub extern "C" fn lavushmir_test_rom_answer(execution: &[u8], bootstrap: &[u8], 
     ensures { result ≡ packed_of (rom_answer execution.now bootstrap.now address) }
 {
     packed(rom_answer(execution, bootstrap, address))
-}
-
-fn copy_four(part: &[u8], out: &mut [u8])
-    requires { (length part.now ≡ 4) × (length out.old ≡ 4) }
-    ensures { out.new ≡ part.now }
-{
-    out[0] = part[0];
-    out[1] = part[1];
-    out[2] = part[2];
-    out[3] = part[3];
 }
 
 // A returned part cannot go to C: its bytes are copied to `out`, if that has room for four and no more.
@@ -68,6 +51,6 @@ pub extern "C" fn lavushmir_test_rom_window<'a>(
     if out.len() != 4 {
         return len;
     }
-    copy_four(part, out);
+    out.copy_from_slice(part);
     len
 }

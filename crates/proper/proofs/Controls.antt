@@ -1,4 +1,5 @@
 -- What an intent says, in a machine of words that keeps the rules, and that the words of COP0 intend such.
+use Rattle.std.specs.Prelude.{Option, Some, None}
 use Prim.Native.Nat.{ℕ, ◌*◌, ◌%◌, ◌^◌, ◌≤◌, ◌<◌}
 use mathlib.Core.Path.{refl}
 use mathlib.Core.List.{List}
@@ -17,8 +18,7 @@ use Rattle.cp0.specs.declared.registers.Cp0.{Cp0}
 use Rattle.tlb.specs.Entry.{no_row, read_at}
 use Rattle.tlb.specs.Index.{index_of, probed_of}
 use Rattle.tlb.specs.Search.{found_in}
-use Rattle.tlb.specs.declared.Found.{Found}
-use Rattle.tlb.specs.declared.Found.TheVariants.{At, Nothing}
+use Rattle.tlb.specs.declared.Hit.{Hit}
 use Rattle.tlb.specs.declared.Row.{Row}
 use Rattle.printer.proofs.Each.{each_holds}
 use Rattle.intend.specs.Control.{written_word, popped_word, function_of, control_of}
@@ -43,13 +43,13 @@ Means c pending (SetEntry row) = ControlGood (with_entry row.high row.low c) pen
 Means c pending (SetRow i row) = RowGood row
 Means c pending (Trap code coprocessor) = code ≤ 12
 
-probed_good : (pending : ℕ) (found : Found) → Good Index pending (probed_of found)
-probed_good pending (At i second) =
+probed_good : (pending : ℕ) (found : Option Hit) → Good Index pending (probed_of found)
+probed_good pending (Some hit) =
     record {
       small = omega arith;
-      kept = each_holds (2 ^ 6) (λ j. within 0x80003F00 (j * 2 ^ 8)) refl (i % 2 ^ 6) (mod-lt i (omega arith));
+      kept = each_holds (2 ^ 6) (λ j. within 0x80003F00 (j * 2 ^ 8)) refl (hit.at % 2 ^ 6) (mod-lt hit.at (omega arith));
     }
-probed_good pending Nothing = record { small = omega arith; kept = refl }
+probed_good pending None = record { small = omega arith; kept = refl }
 
 module _ (c : Cp0) (pending : ℕ) (g : ControlGood c pending) where
   written_good : (r : ControlRegister) (word : ℕ) → Good r pending (written_word r word c)

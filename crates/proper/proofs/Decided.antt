@@ -1,4 +1,5 @@
 -- What a step decides from words that keep the rules are words again, and leaves CP0 and the table keeping them: `decide_proper`.
+use Rattle.std.specs.Prelude.{Result, Ok, Err}
 use Prim.Native.Nat.{ℕ, ◌<◌}
 use mathlib.Core.List.{List}
 use native.Mathlib.Omega.{arith}
@@ -7,8 +8,8 @@ use Rattle.word.proofs.Cond.{picked}
 use Rattle.isa.specs.Opcode.{decode_of}
 use Rattle.cp0.specs.Interrupt.{interrupts_of}
 use Rattle.tlb.specs.declared.Row.{Row}
-use Rattle.reach.specs.declared.Reached.{Reached}
-use Rattle.reach.specs.declared.Reached.TheVariants.{Lands, Exception}
+use Rattle.reach.specs.declared.Fault.{Fault}
+use Rattle.board.specs.declared.places.Place.{Place}
 use Rattle.reach.specs.declared.access.Kind.TheVariants.{Fetch}
 use Rattle.reach.specs.declared.access.Width.TheVariants.{Four}
 use Rattle.state.specs.declared.machine.Core.{Core}
@@ -28,9 +29,9 @@ module _ (core : Core) (pending : ℕ) (regs : List ℕ) (t : List Row) (lent : 
   execute_proper word =
       settle_proper core pending regs t lent s (intend_of core regs t (sizes_of lent) (decode_of word)) (intend_means core pending regs t lent (sizes_of lent) some s (decode_of word))
 
-  fetched_proper : (answer : Reached) → Coded answer → Proper core pending (fetched_of core regs t lent answer)
-  fetched_proper (Lands place) h = execute_proper (word_in lent place)
-  fetched_proper (Exception miss code) h = refused_proper core pending regs t lent s code miss core.pc h (pc_word core pending regs t lent s)
+  fetched_proper : (answer : Result Place Fault) → Coded answer → Proper core pending (fetched_of core regs t lent answer)
+  fetched_proper (Ok place) h = execute_proper (word_in lent place)
+  fetched_proper (Err fault) h = refused_proper core pending regs t lent s fault.code fault.miss core.pc h (pc_word core pending regs t lent s)
 
   decided : Proper core pending (decide_of core regs t lent)
   unfolding decide_of

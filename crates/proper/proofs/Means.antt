@@ -9,8 +9,7 @@ use Rattle.word.specs.Number.{extended}
 use Rattle.word.proofs.Cond.{picked}
 use Rattle.alu.specs.Sum.{addiu_of}
 use Rattle.alu.specs.declared.product.HiLo as alu
-use Rattle.alu.specs.declared.sum.Added.{Added}
-use Rattle.alu.specs.declared.sum.Added.TheVariants.{Sum, Overflow}
+use Rattle.std.proofs.Common.{Option, Some, None}
 use Rattle.isa.specs.declared.instr.Instr.{Instr}
 use Rattle.isa.specs.declared.instr.Instr.TheVariants.{Reserved, Unusable, Syscall, Break, Shift, ShiftBy, Register, Product, MoveFrom, MoveTo, JumpRegister, JumpLinkRegister, Jump, Compare, Sign, Immediate, LoadUpper, Load, Store}
 use Rattle.isa.specs.declared.instr.Instr.TheVariants as instr
@@ -41,9 +40,9 @@ module _ (core : Core) (pending : ℕ) where
   abbrev Meant : Intent → Type 0
   Meant i = Means core.cp0 pending i
 
-  summed_means : (sum : Added) (d : ℕ) → Summed sum → Meant (summed_of sum d)
-  summed_means (Sum v) d h = h
-  summed_means Overflow d h = omega arith
+  summed_means : (sum : Option ℕ) (d : ℕ) → Summed sum → Meant (summed_of sum d)
+  summed_means (Some v) d h = h
+  summed_means None d h = omega arith
 
   taken_word : (test : Bool) (offset : ℕ) → taken_of core test offset < 2 ^ 32
   taken_word test offset = picked (λ x. x < 2 ^ 32) test _ _ (λ _. branch_word core.pc offset) (λ _. after_small core.next_pc)

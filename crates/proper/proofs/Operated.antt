@@ -18,8 +18,7 @@ use Rattle.alu.specs.Jumps.{branch_of, jump_of, link_of}
 use Rattle.alu.specs.Logic.{immediate, lui_of}
 use Rattle.alu.specs.Sum.{exactly, flag}
 use Rattle.alu.specs.declared.product.HiLo.{HiLo}
-use Rattle.alu.specs.declared.sum.Added.{Added}
-use Rattle.alu.specs.declared.sum.Added.TheVariants.{Sum, Overflow}
+use Rattle.std.proofs.Common.{Option, Some, None}
 use Rattle.isa.specs.declared.instr.HiLo as isa
 use Rattle.isa.specs.declared.instr.HiLo.TheVariants.{Hi, Lo}
 use Rattle.isa.specs.declared.instr.ShiftOp.{ShiftOp}
@@ -35,9 +34,9 @@ use Rattle.intend.specs.Operate.{shift_of, register_of, immediate_of}
 use Rattle.proper.proofs.Words.{bits_small}
 
 -- a sum, where there is one
-abbrev pub Summed : Added → Type 0
-Summed (Sum v) = v < 2 ^ 32
-Summed Overflow = Unit {0}
+abbrev pub Summed : Option ℕ → Type 0
+Summed (Some v) = v < 2 ^ 32
+Summed None = Unit {0}
 
 pub record Halves (words : HiLo) : Type 0 where
   pub hi : words.hi < 2 ^ 32

@@ -10,7 +10,7 @@ use Rattle.word.specs.Mask.{within}
 use Rattle.word.proofs.Cond.{both, and_true}
 use Rattle.isa.specs.Cop0.{registers}
 use Rattle.isa.specs.Encode.{control_code}
-use Rattle.isa.specs.declared.control.Named.TheVariants.{Missing, Is}
+use Rattle.std.specs.Prelude.{Some, None}
 use Rattle.isa.specs.declared.instr.ControlRegister.{ControlRegister}
 use Rattle.isa.specs.declared.instr.ControlRegister.TheVariants.{Index, Random, EntryLo, BadVAddr, EntryHi, Status, Cause, Epc}
 use Rattle.cp0.specs.Registers.{read_of, with_register, with_entry}
@@ -91,7 +91,7 @@ module _ (c : Cp0) (pending : ℕ) where
         }
 
 -- a register's number names it
-named_back : (r : ControlRegister) → get_or registers (control_code r) Missing ≡ Is r
+named_back : (r : ControlRegister) → get_or registers (control_code r) None ≡ Some r
 named_back Index = refl
 named_back Random = refl
 named_back EntryLo = refl

@@ -1,4 +1,5 @@
 -- What an intent of words that keep the rules then changes are words again, and keeps them: `settle_proper`.
+use Rattle.std.specs.Prelude.{Ok, Err}
 use Prim.{tt}
 use Prim.Native.Nat.{ℕ, ◌^◌, ◌≤◌, ◌<◌}
 use mathlib.Core.Bool.{Bool, false}
@@ -14,7 +15,6 @@ use Rattle.board.specs.declared.places.Place.TheVariants.{Ram, Execution, Bootst
 use Rattle.cp0.specs.Entry.{vector_of}
 use Rattle.cp0.specs.declared.entry.Exception as entry
 use Rattle.tlb.specs.declared.Row.{Row}
-use Rattle.reach.specs.declared.Reached.TheVariants.{Lands, Exception}
 use Rattle.state.specs.Slot.{in_slot, return_of}
 use Rattle.state.specs.declared.machine.Core.{Core}
 use Rattle.intend.specs.Operand.{reg_of}
@@ -90,12 +90,12 @@ module _ (core : Core) (pending : ℕ) (regs : List ℕ) (t : List Row) (lent : 
   settle_proper (intent.Write d v) h = on_proper (written_of d v) (to_register_leaves core pending d _ h)
   settle_proper (intent.Branch d v next) h = record { pc = next_word; next = h.1; leaves = to_register_leaves core pending d _ h.0 }
   settle_proper (intent.HiLo hi lo) h = on_proper (effect.HiLo hi lo) h
-  settle_proper (intent.Load op d va (Lands place)) h =
+  settle_proper (intent.Load op d va (Ok place)) h =
       on_proper (loads_of op d (reg_of regs d) (word_in lent place) place) (loads_leaves core pending op d (reg_of regs d) (word_in lent place) place (word_in_small lent bytes place))
-  settle_proper (intent.Load op d va (Exception miss code)) h = refused_proper code miss va h.1 h.0
-  settle_proper (intent.Store op x va (Lands place)) h =
+  settle_proper (intent.Load op d va (Err fault)) h = refused_proper fault.code fault.miss va h.1 h.0
+  settle_proper (intent.Store op x va (Ok place)) h =
       on_proper (stores_of op x (word_in lent place) place) (stores_leaves core pending op x (word_in lent place) place h.0)
-  settle_proper (intent.Store op x va (Exception miss code)) h = refused_proper code miss va h.2 h.1
+  settle_proper (intent.Store op x va (Err fault)) h = refused_proper fault.code fault.miss va h.2 h.1
   settle_proper (intent.SetControl r word) h = on_proper (effect.Control r word) h
   settle_proper (intent.SetEntry row) h = on_proper (effect.Entry row) h
   settle_proper (intent.SetRow i row) h = on_proper (effect.TlbRow i row.high row.low) h

@@ -5,33 +5,28 @@ use mathlib.Core.List.{List}
 use Prim.Native.Nat.{ℕ, ◌+◌, ◌*◌, ◌/◌, ◌%◌, ◌^◌}
 use native.Mathlib.Omega.{arith}
 use lib.ListN.{get_or}
+use Rattle.std.specs.Prelude.{Option, Some, None, Result, Ok, Err}
 use Rattle.word.proofs.Cond.{both, picked}
 use Rattle.board.specs.Places.{mapped_of}
 use Rattle.board.specs.declared.places.Sizes.{Sizes}
 use Rattle.board.specs.declared.places.Place.{Place}
-use Rattle.board.specs.declared.places.OnBus.{OnBus}
-use Rattle.board.specs.declared.places.OnBus.TheVariants.{In, Nowhere}
 use Rattle.cp0.specs.declared.privilege.Mode.{Mode}
 use Rattle.tlb.specs.Entry.{no_row}
 use Rattle.tlb.specs.Search.{found_in}
 use Rattle.tlb.specs.declared.Row.{Row}
-use Rattle.tlb.specs.declared.Found.{Found}
-use Rattle.tlb.specs.declared.Found.TheVariants.{At, Nothing}
+use Rattle.tlb.specs.declared.Hit.{Hit}
 use Rattle.reach.specs.Check.{aligned_of, allowed_of}
 use Rattle.reach.specs.Translate.{is_valid, is_locked, by_row, by_found, is_virtual, sought_of, translated_of}
 use Rattle.reach.specs.Bus.{permits, lands_of}
 use Rattle.reach.specs.Reach.{bus_after, reach_of}
 use Rattle.reach.specs.declared.access.Kind.{Kind}
 use Rattle.reach.specs.declared.access.Access.{Access}
-use Rattle.reach.specs.declared.translate.Translated.{Translated}
-use Rattle.reach.specs.declared.translate.Translated.TheVariants.{To, Raises}
-use Rattle.reach.specs.declared.Reached.{Reached}
-use Rattle.reach.specs.declared.Reached.TheVariants.{Lands, Exception}
+use Rattle.reach.specs.declared.Fault.{Fault}
 
 -- ---- translation keeps the place in the page, and so the place in the word
-abbrev Keeps : ℕ → Translated → Type 0
-Keeps a (To p) = p % 4 ≡ a % 4
-Keeps a (Raises miss code) = Unit
+abbrev Keeps : ℕ → Result ℕ Fault → Type 0
+Keeps a (Ok p) = p % 4 ≡ a % 4
+Keeps a (Err fault) = Unit
 
 in_page : (frame a : ℕ) → (frame * 2 ^ 12 + a % 2 ^ 12) % 4 ≡ a % 4
 in_page frame a = omega arith
@@ -43,9 +38,9 @@ row_keeps kind a row =
     (λ _. picked (Keeps a) (is_locked kind row) _ _ (λ _. tt) (λ _. in_page (row.low / 2 ^ 12) a))
     (λ _. tt)
 
-found_keeps : (kind : Kind) (a : ℕ) (t : List Row) (f : Found) → Keeps a (by_found kind a t f)
-found_keeps kind a t (At i second) = row_keeps kind a (get_or t i no_row)
-found_keeps kind a t Nothing = tt
+found_keeps : (kind : Kind) (a : ℕ) (t : List Row) (f : Option Hit) → Keeps a (by_found kind a t f)
+found_keeps kind a t (Some hit) = row_keeps kind a (get_or t hit.at no_row)
+found_keeps kind a t None = tt
 
 translated_keeps : (mode : Mode) (kind : Kind) (a : ℕ) (t : List Row) (entry : ℕ) → Keeps a (translated_of mode kind a t entry)
 unfolding translated_of
@@ -57,34 +52,34 @@ pub record Landing (access : Access) (sizes : Sizes) (a : ℕ) (place : Place) :
   pub aligned : aligned_of access.width a ≡ true
   pub physical : ℕ
   pub same : physical % 4 ≡ a % 4
-  pub maps : mapped_of sizes physical ≡ In place
+  pub maps : mapped_of sizes physical ≡ Some place
   pub permitted : permits access.kind access.width place ≡ true
 
 module _ (access : Access) (sizes : Sizes) (a : ℕ) where
-  abbrev LandsBy : Reached → Type 0
-  LandsBy (Lands place) = Landing access sizes a place
-  LandsBy (Exception miss code) = Unit
+  abbrev LandsBy : Result Place Fault → Type 0
+  LandsBy (Ok place) = Landing access sizes a place
+  LandsBy (Err fault) = Unit
 
   module _ (aligned : aligned_of access.width a ≡ true) where
-    after_bus : (p : ℕ) → p % 4 ≡ a % 4 → (m : OnBus) → mapped_of sizes p ≡ m → LandsBy (lands_of access.kind access.width m)
-    after_bus p same (In place) maps =
+    after_bus : (p : ℕ) → p % 4 ≡ a % 4 → (m : Option Place) → mapped_of sizes p ≡ m → LandsBy (lands_of access.kind access.width m)
+    after_bus p same (Some place) maps =
         picked LandsBy (permits access.kind access.width place) _ _
         (λ h. record { aligned = aligned; physical = p; same = same; maps = maps; permitted = h })
         (λ _. tt)
-    after_bus p same Nowhere maps = tt
+    after_bus p same None maps = tt
 
-    after : (t : Translated) → Keeps a t → LandsBy (bus_after access sizes t)
-    after (To p) same = after_bus p same (mapped_of sizes p) refl
-    after (Raises miss code) keeps = tt
+    after : (t : Result ℕ Fault) → Keeps a t → LandsBy (bus_after access sizes t)
+    after (Ok p) same = after_bus p same (mapped_of sizes p) refl
+    after (Err fault) keeps = tt
 
 module _ (mode : Mode) (access : Access) (sizes : Sizes) (a : ℕ) (t : List Row) (entry : ℕ) where
   reached_by : LandsBy access sizes a (reach_of mode access sizes a t entry)
   unfolding reach_of
   reached_by =
-      picked (λ (to : Translated). LandsBy access sizes a (bus_after access sizes to)) (aligned_of access.width a && allowed_of mode a) _ _
+      picked (λ (to : Result ℕ Fault). LandsBy access sizes a (bus_after access sizes to)) (aligned_of access.width a && allowed_of mode a) _ _
       (λ h. after access sizes a (both (aligned_of access.width a) (allowed_of mode a) h).0 (translated_of mode access.kind a t entry)
       (translated_keeps mode access.kind a t entry))
       (λ _. tt)
 
-  pub landing : {place : Place} → reach_of mode access sizes a t entry ≡ Lands place → Landing access sizes a place
+  pub landing : {place : Place} → reach_of mode access sizes a t entry ≡ Ok place → Landing access sizes a place
   landing h = subst (LandsBy access sizes a) h reached_by

@@ -5,6 +5,7 @@ use mathlib.Core.List.{List}
 use Prim.Native.Nat.{ℕ, ◌+◌, ◌*◌, ◌/◌, ◌%◌, ◌≤◌, ◌<◌}
 use native.Mathlib.Omega.{arith}
 use borrow.Author.Tests.{eqb-true}
+use Rattle.std.specs.Prelude.{Ok}
 use Rattle.word.proofs.Cond.{both}
 use Rattle.board.proofs.Areas.{offset_of, size_of, mapped_inside}
 use Rattle.board.specs.declared.places.Sizes.{Sizes}
@@ -20,7 +21,6 @@ use Rattle.reach.specs.declared.access.Kind.TheVariants.{Fetch, Load, Store}
 use Rattle.reach.specs.declared.access.Width.{Width}
 use Rattle.reach.specs.declared.access.Width.TheVariants.{One, Two, Four, Part}
 use Rattle.reach.specs.declared.access.Access.{Access}
-use Rattle.reach.specs.declared.Reached.TheVariants.{Lands}
 use Rattle.reach.proofs.Landing.{landing}
 
 abbrev pub NotRom : Place → Type 0
@@ -68,12 +68,12 @@ moved Four at a s m = omega arith
 moved Part at a s m = omega arith
 
 module _ (mode : Mode) (access : Access) (sizes : Sizes) (a : ℕ) (t : List Row) (entry : ℕ) where
-  pub lands_within : {place : Place} → reach_of mode access sizes a t entry ≡ Lands place → offset_of place < size_of sizes place
+  pub lands_within : {place : Place} → reach_of mode access sizes a t entry ≡ Ok place → offset_of place < size_of sizes place
   lands_within h =
       let l = landing mode access sizes a t entry h in
       (mapped_inside sizes l.physical l.maps).within
 
-  pub lands_aligned : {place : Place} → reach_of mode access sizes a t entry ≡ Lands place → offset_of place % alignment access.width ≡ 0
+  pub lands_aligned : {place : Place} → reach_of mode access sizes a t entry ≡ Ok place → offset_of place % alignment access.width ≡ 0
   lands_aligned {place} h =
       let l = landing mode access sizes a t entry h in
       moved access.width (offset_of place) a
@@ -81,23 +81,23 @@ module _ (mode : Mode) (access : Access) (sizes : Sizes) (a : ℕ) (t : List Row
       (eqb-true (a % alignment access.width) 0 l.aligned)
 
   -- what a caller asks who reads or writes the width's bytes at the offset
-  pub lands_fits : {place : Place} → reach_of mode access sizes a t entry ≡ Lands place →
+  pub lands_fits : {place : Place} → reach_of mode access sizes a t entry ≡ Ok place →
       size_of sizes place % 4 ≡ 0 → Fits access.width (offset_of place) (size_of sizes place)
   lands_fits {place} h w = room access.width (offset_of place) (size_of sizes place) w (lands_within h) (lands_aligned h)
 
   -- a store never lands in ROM
-  pub store_not_rom : {place : Place} → access.kind ≡ Store → reach_of mode access sizes a t entry ≡ Lands place → NotRom place
+  pub store_not_rom : {place : Place} → access.kind ≡ Store → reach_of mode access sizes a t entry ≡ Ok place → NotRom place
   store_not_rom {place} s h =
       store_permitted access.width place
       (ap (λ k. permits k access.width place) (sym s) ∙ (landing mode access sizes a t entry h).permitted)
 
   -- what lands in the device area is LW or SW: neither a fetch nor another width
-  pub device_word_lem : {at : ℕ} → reach_of mode access sizes a t entry ≡ Lands (Device at) → access.width ≡ Four
+  pub device_word_lem : {at : ℕ} → reach_of mode access sizes a t entry ≡ Ok (Device at) → access.width ≡ Four
   device_word_lem h =
       word_only access.width
       (both (not (is_fetch access.kind)) (is_word access.width) (landing mode access sizes a t entry h).permitted).1
 
-  pub device_not_fetch : {at : ℕ} → reach_of mode access sizes a t entry ≡ Lands (Device at) → access.kind ≡ Fetch → ⊥
+  pub device_not_fetch : {at : ℕ} → reach_of mode access sizes a t entry ≡ Ok (Device at) → access.kind ≡ Fetch → ⊥
   device_not_fetch h =
       not_fetch access.kind
       (both (not (is_fetch access.kind)) (is_word access.width) (landing mode access sizes a t entry h).permitted).0

@@ -5,6 +5,7 @@ use mathlib.Core.List.{List}
 use Prim.Native.Nat.{ℕ, ◌-◌, ◌%◌, ◌≤◌, ◌<◌}
 use lib.Dec.{leb, ltb}
 use borrow.Author.Tests.{not-true, leb-true, ltb-true, eqb-true}
+use Rattle.std.specs.Prelude.{Ok}
 use Rattle.word.specs.Map.{bit}
 use Rattle.word.proofs.Cond.{both}
 use Rattle.board.specs.Places.{ram_base, spans, mapped_of}
@@ -19,7 +20,6 @@ use Rattle.reach.specs.Reach.{reach_of}
 use Rattle.reach.specs.Plain.{plain_of}
 use Rattle.reach.specs.declared.access.Kind.{Kind}
 use Rattle.reach.specs.declared.access.Width.{Width}
-use Rattle.reach.specs.declared.Reached.TheVariants.{Lands}
 
 -- what the test tells
 pub record Plain (status : ℕ) (width : Width) (ram va : ℕ) : Type 0 where
@@ -51,7 +51,7 @@ or_true false b h = h
 
 module _ (status : ℕ) (kind : Kind) (width : Width) (sizes : Sizes) (va : ℕ) (t : List Row) (entry : ℕ) where
   pub plain_reach : plain_of status width sizes.ram va ≡ true →
-      reach_of (mode_of status) (record { kind = kind; width = width }) sizes va t entry ≡ Lands (Ram (va - 0x20000000))
+      reach_of (mode_of status) (record { kind = kind; width = width }) sizes va t entry ≡ Ok (Ram (va - 0x20000000))
   unfolding reach_of translated_of mapped_of
   plain_reach h =
       let p = is_plain status width sizes.ram va h in

@@ -10,8 +10,7 @@ pub fn address_error(kind: Kind) -> u32
     ensures { result ≡ address_error kind }
 {
     match kind {
-        Kind::Fetch => ADEL,
-        Kind::Load => ADEL,
+        Kind::Fetch | Kind::Load => ADEL,
         Kind::Store => ADES,
     }
 }
@@ -20,30 +19,21 @@ pub fn aligned(width: Width, a: u32) -> bool
     ensures { result ≡ aligned_of width a }
 {
     match width {
-        Width::One => true,
+        Width::One | Width::Part => true,
         Width::Two => a % 2 == 0,
         Width::Four => a % 4 == 0,
-        Width::Part => true,
     }
 }
 
 fn allowed(mode: Mode, a: u32) -> bool
     ensures { result ≡ allowed_of mode a }
 {
-    if mode.user {
-        if mode.vm {
-            return 0x8000_0000 <= a;
-        }
-        return 0x2000_0000 <= a;
-    }
-    true
+    let lowest = if mode.vm { 0x8000_0000 } else { 0x2000_0000 };
+    !mode.user || lowest <= a
 }
 
 pub fn checked(mode: Mode, width: Width, a: u32) -> bool
     ensures { result ≡ (aligned_of width a && allowed_of mode a) }
 {
-    if aligned(width, a) {
-        return allowed(mode, a);
-    }
-    false
+    aligned(width, a) && allowed(mode, a)
 }

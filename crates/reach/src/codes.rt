@@ -1,4 +1,5 @@
 // ExcCode of the exceptions that an access can raise.
+// Stays: (a) numbers and no enum: they are what Cause holds, by the manual (`code_adel` and its like in specs/Codes).
 pub const MOD: u32 = 1;
 
 pub const TLBL: u32 = 2;

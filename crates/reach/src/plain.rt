@@ -8,17 +8,9 @@ use board::places::RAM;
 use word::map::has_bit;
 
 // `ram` is RAM's length in bytes.
+#[tactic(auto, unfolding(crate::specs::Plain::plain_of))]
 pub fn plain(status: u32, width: Width, ram: u32, va: u32) -> bool
     ensures { result ≡ plain_of status width ram va }
 {
-    if has_bit(24, status) {
-        return false;
-    }
-    if !aligned(width, va) {
-        return false;
-    }
-    if va < RAM {
-        return false;
-    }
-    va - RAM < ram
+    !has_bit(24, status) && aligned(width, va) && RAM <= va && va - RAM < ram
 }

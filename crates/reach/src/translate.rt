@@ -3,24 +3,18 @@ ghost use Rattle.std.specs.Prelude.{◌≡◌, ◌&&◌};
 ghost use Rattle.reach.specs.Translate.{tlb_error, sought_of, is_locked, by_row, by_found, is_virtual, translated_of};
 ghost use Rattle.tlb.specs.Search.{is_twice, found_in};
 
-use crate::access::{Kind, is_store};
+use crate::Fault;
+use crate::access::Kind;
 use crate::codes::{MOD, TLBL, TLBS};
 use cp0::privilege::Mode;
-use tlb::{First, Found, Row};
+use tlb::{Hit, Row};
 use word::map::has_bit;
-
-#[derive(Clone, Copy)]
-pub enum Translated {
-    To(u32),
-    Raises { miss: bool, code: u32 },
-}
 
 fn tlb_error(kind: Kind) -> u32
     ensures { result ≡ tlb_error kind }
 {
     match kind {
-        Kind::Fetch => TLBL,
-        Kind::Load => TLBL,
+        Kind::Fetch | Kind::Load => TLBL,
         Kind::Store => TLBS,
     }
 }
@@ -36,78 +30,65 @@ fn sought(a: u32, entry: u32) -> u32
 fn locked(kind: Kind, row: Row) -> bool
     ensures { result ≡ is_locked kind row }
 {
-    if is_store(kind) {
-        return !has_bit(10, row.low);
-    }
-    false
+    kind == Kind::Store && !has_bit(10, row.low)
 }
 
-fn by_row(kind: Kind, a: u32, row: Row) -> Translated
+#[tactic(auto, unfolding(crate::specs::Translate::by_row))]
+fn by_row(kind: Kind, a: u32, row: Row) -> Result<u32, Fault>
     ensures { result ≡ by_row kind a row }
 {
     if !has_bit(9, row.low) {
-        return Translated::Raises {
+        return Err(Fault {
             miss: false,
             code: tlb_error(kind),
-        };
+        });
     }
     if locked(kind, row) {
-        return Translated::Raises {
+        return Err(Fault {
             miss: false,
             code: MOD,
-        };
+        });
     }
-    Translated::To(row.low / 4096 * 4096 + a % 4096)
+    Ok(row.low / 4096 * 4096 + a % 4096)
 }
 
-fn searched(kind: Kind, a: u32, rows: [Row; 16], entry: u32) -> Translated
+fn searched(kind: Kind, a: u32, rows: [Row; 16], entry: u32) -> Result<u32, Fault>
     ensures { result ≡ by_found kind a rows (found_in (sought_of a entry) rows) }
 {
     match tlb::lowest(rows, sought(a, entry)) {
-        First::At(i) => {
-            let row = tlb::read(rows, i);
-            by_row(kind, a, row)
-        }
-        First::Nothing => Translated::Raises {
+        Some(i) => by_row(kind, a, tlb::read(rows, i)),
+        None => Err(Fault {
             miss: true,
             code: tlb_error(kind),
-        },
+        }),
     }
 }
 
 fn is_virtual(mode: Mode, a: u32) -> bool
     ensures { result ≡ is_virtual mode a }
 {
-    if mode.vm {
-        return 0x2000_0000 <= a;
-    }
-    false
+    mode.vm && 0x2000_0000 <= a
 }
 
-pub fn translate(mode: Mode, kind: Kind, a: u32, rows: [Row; 16], entry: u32) -> Translated
+#[tactic(auto, unfolding(crate::specs::Translate::translated_of))]
+pub fn translate(mode: Mode, kind: Kind, a: u32, rows: [Row; 16], entry: u32) -> Result<u32, Fault>
     ensures { result ≡ translated_of mode kind a rows entry }
 {
     if is_virtual(mode, a) {
         return searched(kind, a, rows, entry);
     }
-    Translated::To(a)
+    Ok(a)
 }
 
-fn is_twice(found: Found) -> bool
+fn is_twice(found: Option<Hit>) -> bool
     ensures { result ≡ is_twice found }
 {
-    match found {
-        Found::At(_, second) => second,
-        Found::Nothing => false,
-    }
+    matches!(found, Some(Hit { twice: true, .. }))
 }
 
 // Whether two entries match an address that is translated.
 pub fn twice(mode: Mode, a: u32, rows: [Row; 16], entry: u32) -> bool
     ensures { result ≡ (is_virtual mode a && is_twice (found_in (sought_of a entry) rows)) }
 {
-    if is_virtual(mode, a) {
-        return is_twice(tlb::search(rows, sought(a, entry)));
-    }
-    false
+    is_virtual(mode, a) && is_twice(tlb::search(rows, sought(a, entry)))
 }

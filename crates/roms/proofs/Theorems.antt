@@ -8,22 +8,23 @@ use lib.Dec.{eqb}
 use lib.ListN.{length}
 use Rattle.board.specs.Rom.{fit_of, held_of, answer_of, window_of}
 use Rattle.board.specs.Rom as rom
-use Rattle.board.specs.declared.rom.RomAnswer.{RomAnswer}
-use Rattle.board.specs.declared.rom.RomAnswer.TheVariants.{Done, BadRom, BadAddress}
+use Rattle.std.specs.Prelude.{Result, Ok, Err}
+use Rattle.board.specs.declared.rom.RomError.{RomError}
+use Rattle.board.specs.declared.rom.RomError.TheVariants.{BadRom, BadAddress}
 use Rattle.board.proofs.Windows.{answer_two, answer_nine, answer_zero, window_exact}
 use Rattle.answer.specs.Answer.{number_of, reason_of, steps_of}
 use Rattle.roms.specs.Rom.{told, rom_answer}
 
 -- both enums say the same number
-same_number : (r : RomAnswer) → number_of (told r) ≡ rom.number_of r
-same_number Done = refl
-same_number BadRom = refl
-same_number BadAddress = refl
+same_number : (r : Result Unit RomError) → number_of (told r) ≡ rom.number_of r
+same_number (Ok done) = refl
+same_number (Err BadRom) = refl
+same_number (Err BadAddress) = refl
 
-plain : (r : RomAnswer) → (steps_of (told r) ≡ 0) × (reason_of (told r) ≡ 0)
-plain Done = (refl, refl)
-plain BadRom = (refl, refl)
-plain BadAddress = (refl, refl)
+plain : (r : Result Unit RomError) → (steps_of (told r) ≡ 0) × (reason_of (told r) ≡ 0)
+plain (Ok done) = (refl, refl)
+plain (Err BadRom) = (refl, refl)
+plain (Err BadAddress) = (refl, refl)
 
 module _ (x y : List ℕ) (a : ℕ) where
   abbrev number : ℕ

@@ -5,16 +5,19 @@ ghost use Rattle.std.specs.Prelude.{◌≡◌};
 ghost use Rattle.board.specs.Rom.{window_of};
 ghost use Rattle.roms.specs.Rom.{told, rom_answer};
 
-use answer::{Answer, Reason, Refusal};
-use board::rom::RomAnswer;
+use answer::{Answer, Done, Reason, Refusal};
+use board::rom::RomError;
 
-fn told(answer: RomAnswer) -> Answer
+fn told(answer: Result<(), RomError>) -> Answer
     ensures { result ≡ told answer }
 {
     match answer {
-        RomAnswer::Done => Answer::Done(0, Reason::NoReason),
-        RomAnswer::BadRom => Answer::Refused(Refusal::Rom),
-        RomAnswer::BadAddress => Answer::Refused(Refusal::Address),
+        Ok(()) => Ok(Done {
+            steps: 0,
+            reason: Reason::NoReason,
+        }),
+        Err(RomError::BadRom) => Err(Refusal::Rom),
+        Err(RomError::BadAddress) => Err(Refusal::Address),
     }
 }
 

@@ -6,12 +6,12 @@ use Prim.Native.Nat.{ℕ, suc, ◌≤◌}
 use native.Mathlib.Omega.{arith}
 use borrow.Author.Tests.{eqb-true, eq-eqb, le-leb}
 use lib.Dec.{eqb}
+use Rattle.std.specs.Prelude.{is_some}
 use Rattle.word.proofs.Cond.{both}
 use Rattle.tlb.specs.Entry.{page_of, asid_of, is_global, matches_of}
-use Rattle.tlb.specs.Search.{is_at, is_twice, first_from, found_in}
+use Rattle.tlb.specs.Search.{hit_at, is_twice, first_from, found_in}
 use Rattle.tlb.specs.Doubled.{clash_of, clashes_in, doubled_in}
 use Rattle.tlb.specs.declared.Row.{Row}
-use Rattle.tlb.specs.declared.Found.TheVariants.{At}
 
 neither : (a b : Bool) → (a || b) ≡ false → (a ≡ false) × (b ≡ false)
 neither false b e = (refl, e)
@@ -36,15 +36,15 @@ module _ (sought : ℕ) (translated : 0x20000000 ≤ sought) where
       (either (asid_of a.high) (asid_of b.high) (asid_of sought) (is_global b.low) (is_global a.low) g.1 h.1)
 
   -- behind a row that matches, and clashes with none of them, none matches
-  alone : (row : Row) → matches_of sought row ≡ true → (rows : List Row) (i : ℕ) → clashes_in row rows ≡ false → is_at (first_from (matches_of sought) i rows) ≡ false
-  unfolding first_from clashes_in
+  alone : (row : Row) → matches_of sought row ≡ true → (rows : List Row) (i : ℕ) → clashes_in row rows ≡ false → is_some (first_from (matches_of sought) i rows) ≡ false
+  unfolding first_from
   alone row hit [] i e = refl
   alone row hit (other ∷ rows) i e =
       let n = neither (clash_of row other) (clashes_in row rows) e in
       go (matches_of sought other) refl n.0 (alone row hit rows (suc i) n.1)
     where
-      go : (b : Bool) → matches_of sought other ≡ b → clash_of row other ≡ false → is_at (first_from (matches_of sought) (suc i) rows) ≡ false →
-          is_at (cond b (At i (is_at (first_from (matches_of sought) (suc i) rows))) (first_from (matches_of sought) (suc i) rows)) ≡ false
+      go : (b : Bool) → matches_of sought other ≡ b → clash_of row other ≡ false → is_some (first_from (matches_of sought) (suc i) rows) ≡ false →
+          is_some (cond b (hit_at i (is_some (first_from (matches_of sought) (suc i) rows))) (first_from (matches_of sought) (suc i) rows)) ≡ false
       go true is free later = absurd (true≢false (sym (both_clash row other hit is) ∙ free))
       go false is free later = later
 
@@ -56,7 +56,7 @@ module _ (sought : ℕ) (translated : 0x20000000 ≤ sought) where
       go (matches_of sought row) refl n.0 (single_from rows (suc i) n.1)
     where
       go : (b : Bool) → matches_of sought row ≡ b → clashes_in row rows ≡ false → is_twice (first_from (matches_of sought) (suc i) rows) ≡ false →
-          is_twice (cond b (At i (is_at (first_from (matches_of sought) (suc i) rows))) (first_from (matches_of sought) (suc i) rows)) ≡ false
+          is_twice (cond b (hit_at i (is_some (first_from (matches_of sought) (suc i) rows))) (first_from (matches_of sought) (suc i) rows)) ≡ false
       go true is free later = alone row is rows (suc i) free
       go false is free later = later
 

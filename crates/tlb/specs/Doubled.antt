@@ -2,15 +2,15 @@
 
 -- Two rows that match one address that is translated, anywhere in a table.
 use Rattle.std.specs.Prelude.{Bool, false, ◌&&◌, ◌||◌, List, [], ◌∷◌, leb}
+use Rattle.std.specs.List.{list_any}
 use Rattle.tlb.specs.Entry.{matches_of}
 use Rattle.tlb.specs.declared.Row.{Row}
 
 unfoldable pub clash_of : Row → Row → Bool
 clash_of a b = leb 0x20000000 a.high && (matches_of a.high b || matches_of b.high a)
 
-unfoldable pub clashes_in : Row → List Row → Bool
-clashes_in row [] = false
-clashes_in row (other ∷ rows) = clash_of row other || clashes_in row rows
+abbrev pub clashes_in : Row → List Row → Bool
+clashes_in row rows = list_any (clash_of row) rows
 
 unfoldable pub doubled_in : List Row → Bool
 doubled_in [] = false

@@ -1,9 +1,10 @@
 // The translation table: sixteen rows of two words, passed and handed back whole.
 #![tactic(auto)]
 
-ghost use Rattle.std.specs.Prelude.{◌≡◌, cond};
+ghost use Rattle.std.specs.Prelude.{◌≡◌, position};
 ghost use Rattle.tlb.specs.Entry.{matches_of, read_at, written_at};
-ghost use Rattle.tlb.specs.Search.{is_at, found_in, lowest_of};
+ghost use Rattle.tlb.specs.Search.{found_in, lowest_of};
+ghost use Rattle.std.specs.List.{list_any};
 ghost use Rattle.tlb.specs.Index.{index_of, probed_of, probed_at};
 
 pub mod doubled; // whether an address can meet two matches at all
@@ -14,81 +15,48 @@ pub struct Row {
     pub low: u32,
 }
 
+// What a search finds: the entry's number, and whether a second one matches.
 #[derive(Clone, Copy)]
-pub enum Found {
-    At(usize, bool), // the entry's number, and whether a second one matches
-    Nothing,
-}
-
-#[derive(Clone, Copy)]
-pub enum First {
-    At(usize),
-    Nothing,
+pub struct Hit {
+    pub at: usize,
+    pub twice: bool,
 }
 
 // Whether an entry stands for the page and the ASID of `sought`, an EntryHi.
 pub fn matches(row: Row, sought: u32) -> bool
     ensures { result ≡ matches_of sought row }
 {
-    if row.high / 4096 != sought / 4096 {
-        return false;
-    }
-    if row.high / 64 % 64 == sought / 64 % 64 {
-        return true;
-    }
-    row.low / 256 % 2 == 1
+    row.high / 4096 == sought / 4096
+        && (row.high / 64 % 64 == sought / 64 % 64 || row.low / 256 % 2 == 1)
 }
 
-fn is_at(found: Found) -> bool
-    ensures { result ≡ is_at found }
+fn first(rows: &[Row], sought: u32) -> Option<usize>
+    ensures { result ≡ position (matches_of sought) rows.now }
 {
-    match found {
-        Found::At(_, _) => true,
-        Found::Nothing => false,
-    }
-}
-
-// What is found from entry `i` on, where `behind` is what is found behind it.
-fn from(hit: bool, i: usize, behind: Found) -> Found
-    ensures { result ≡ cond hit (Found.At i (is_at behind)) behind }
-{
-    if hit {
-        return Found::At(i, is_at(behind));
-    }
-    behind
-}
-
-// The lowest-numbered entry that matches, and whether a second one does: from the last entry down, so that what stands behind an entry is known when it is met.
-pub fn search(t: [Row; 16], sought: u32) -> Found
-    ensures { result ≡ found_in sought t }
-{
-    let mut found = Found::Nothing;
-    let mut i: usize = 16;
-    loop {
-        if i == 0 {
-            break found;
-        }
-        i -= 1;
-        let row = t[i];
-        found = from(matches(row, sought), i, found);
-    }
+    rows.iter().position(|row| matches(*row, sought))
 }
 
 // The lowest-numbered entry that matches: it looks no further, where a second one is not asked for.
-pub fn lowest(t: [Row; 16], sought: u32) -> First
+pub fn lowest(t: [Row; 16], sought: u32) -> Option<usize>
     ensures { result ≡ lowest_of (found_in sought t) }
 {
-    let mut i: usize = 0;
-    loop {
-        if 16 <= i {
-            break First::Nothing;
-        }
-        let row = t[i];
-        if matches(row, sought) {
-            break First::At(i);
-        }
-        i += 1;
-    }
+    first(&t, sought)
+}
+
+// Whether an entry of `rows` matches.
+fn any(rows: &[Row], sought: u32) -> bool
+    ensures { result ≡ list_any (matches_of sought) rows.now }
+{
+    rows.iter().any(|row| matches(*row, sought))
+}
+
+// The lowest-numbered entry that matches, and whether one behind it does too.
+pub fn search(t: [Row; 16], sought: u32) -> Option<Hit>
+    ensures { result ≡ found_in sought t }
+{
+    let at = lowest(t, sought)?;
+    let twice = any(&t[at + 1..], sought);
+    Some(Hit { at, twice })
 }
 
 pub fn read(t: [Row; 16], i: usize) -> Row
@@ -112,12 +80,12 @@ pub fn index(word: u32) -> usize
     (word / 256 % 64) as usize
 }
 
-fn probed(found: First) -> u32
+fn probed(found: Option<usize>) -> u32
     ensures { result ≡ probed_at found }
 {
     match found {
-        First::At(i) => (i % 64) as u32 * 256,
-        First::Nothing => 0x8000_0000,
+        Some(i) => (i % 64) as u32 * 256,
+        None => 0x8000_0000,
     }
 }
 

@@ -1,15 +1,7 @@
-use mathlib.Core.Path.{◌∙◌}
-use native.Mathlib.Omega.{arith}
-use Rattle.pages.proofs.Knows.{known_inside, inside_key}
+-- `pages::bring` meets its contract: the frame of the page that was brought lies in RAM.
+use mathlib.Core.Path.{sym, ◌∙◌}
+use Rattle.pages.proofs.Knows.{told_holds, inside_key}
 use Rattle.pages.proofs.bring.Goals as goal
 
--- the frame of the key that was brought is inside
-pub word_at-word-requires : goal.word_at-word-requires
-word_at-word-requires c =
-    record {
-      ram_len_bound = omega (arith, c.requires.ram_len_bound);
-      pages_in_bounds =
-          inside_key c.remember_code.new.pages _ _ _
-          (c.if-pages-asked.false ∙ c.key-asked.ensures)
-          (known_inside c.remember_code.ensures);
-    }
+pub word_at-word-requires-clause-frame_in_bounds : goal.word_at-word-requires-clause-frame_in_bounds
+word_at-word-requires-clause-frame_in_bounds c = inside_key _ _ (sym c.with_key.ensures ∙ c.in-Some.is) (told_holds _ _ _ c.remember-pages.ensures)

@@ -20,5 +20,5 @@ returns c =
     let w = tested.rom_window-part.ensures in
     record {
       answer_is = ap length w;
-      out_is = rw (eq-eqb _ 4 (sym (ap length w) ∙ tested.if-part-ne4.false), eq-eqb _ 4 tested.if-out-ne4.false) (c.copy_four.ensures ∙ w);
+      out_is = rw (eq-eqb _ 4 (sym (ap length w) ∙ tested.if-part-ne4.false), eq-eqb _ 4 tested.if-out-ne4.false) (c.copy_from_slice.ensures.after ∙ w);
     }

@@ -1,16 +1,8 @@
--- `tlb::lowest` meets its contract. The loop's invariant: the search of the whole table is the search from entry i on.
-use mathlib.Core.Path.{◌∙◌, sym, ap}
-use native.Mathlib.Omega.{arith}
-use borrow.Author.Rules.{rules}
-use Rattle.tlb.specs.Search.{lowest_of}
-use Rattle.tlb.proofs.Steps.{past_end, on_hit, on_miss}
+-- `tlb::lowest` meets its contract: the place of the first row that matches is the one that the definition's search finds.
+use mathlib.Core.Path.{◌∙◌}
+use Rattle.tlb.specs.Entry.{matches_of}
+use Rattle.tlb.proofs.Steps.{first_position}
 use Rattle.tlb.proofs.lowest.Goals as goal
 
-pub loop-i-preserved : goal.loop-i-preserved
-loop-i-preserved c = (omega arith, c.loop-i.invariant.1 ∙ on_miss _ _ _ (search rules) (sym c.matches.ensures ∙ c.if-matches.false))
-
-pub returns-then-i-ge16 : goal.returns-then-i-ge16
-returns-then-i-ge16 c = sym (ap lowest_of (c.loop-i.invariant.1 ∙ past_end _ _ _ (search rules)))
-
-pub returns-then-matches : goal.returns-then-matches
-returns-then-matches c = sym (ap lowest_of (c.loop-i.invariant.1 ∙ on_hit _ _ _ (search rules) (sym c.matches.ensures ∙ c.if-matches.true)))
+pub returns : goal.returns
+returns c = c.first.ensures ∙ first_position (matches_of c.args.sought) c.args.t

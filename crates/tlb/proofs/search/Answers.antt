@@ -1,23 +1,36 @@
--- `tlb::search` meets its contract. The loop's invariant: what is found from entry i on.
+-- `tlb::search` meets its contract: what `lowest` finds lies in the table, and `any` says of the rows behind it whether a second one matches.
 use mathlib.Core.Path.{◌∙◌, sym, ap}
-use Prim.Native.Nat.{ℕ}
-use native.Mathlib.Omega.{arith}
-use lib.ListN.{drop}
+use Prim.Native.Nat.{◌<◌}
 use borrow.Author.Rules.{rules}
+use lib.ListN.{length}
+use Rattle.std.specs.List.{list_any}
 use Rattle.tlb.specs.Entry.{matches_of}
-use Rattle.tlb.specs.Search.{first_from}
-use Rattle.tlb.proofs.Steps.{past_end, one_down}
+use Rattle.tlb.specs.Search.{hit_at}
+use Rattle.tlb.proofs.Clashes.{behind}
+use Rattle.tlb.proofs.Steps.{first_within, first_told}
 use Rattle.tlb.proofs.search.Goals as goal
 
-pub loop-i-init : goal.loop-i-init
-loop-i-init c = (omega arith, sym (past_end (matches_of c.args.sought) c.args.t 16 (search rules)))
+pub overflow_add-at : goal.overflow_add-at
+overflow_add-at c =
+    let within : c.in_ok-at.at < length c.args.t = first_within (matches_of c.args.sought) c.args.t _ (sym c.lowest.ensures ∙ c.in_ok-at.was) in
+    search rules
 
-pub loop-i-preserved : goal.loop-i-preserved
-loop-i-preserved c =
-    let read = c in
-    (omega arith, one_down _ _ read.loop-i.i (omega arith) (omega arith) read.loop-i.invariant.1 c.matches.ensures c.from-found.ensures)
+pub offset_bounds-t-at : goal.offset_bounds-t-at
+offset_bounds-t-at c =
+    let within : c.in_ok-at.at < length c.args.t = first_within (matches_of c.args.sought) c.args.t _ (sym c.lowest.ensures ∙ c.in_ok-at.was) in
+    search rules
+
+pub slice_bounds-any-count : goal.slice_bounds-any-count
+slice_bounds-any-count c =
+    let within : c.in_ok-at.at < length c.args.t = first_within (matches_of c.args.sought) c.args.t _ (sym c.lowest.ensures ∙ c.in_ok-at.was) in
+    search rules
+
+pub slice_bounds-any-start : goal.slice_bounds-any-start
+slice_bounds-any-start c =
+    let within : c.in_ok-at.at < length c.args.t = first_within (matches_of c.args.sought) c.args.t _ (sym c.lowest.ensures ∙ c.in_ok-at.was) in
+    search rules
 
 pub returns : goal.returns
 returns c =
-    let a = c.args in
-    c.loop-i.invariant.1 ∙ ap (λ (k : ℕ). first_from (matches_of a.sought) k (drop k a.t)) c.if-i-eq0.true
+    ap (hit_at c.in_ok-at.at) (c.any-twice.ensures ∙ ap (list_any (matches_of c.args.sought)) (behind c.args.t c.in_ok-at.at (search rules)))
+    ∙ sym (first_told (matches_of c.args.sought) c.args.t _ (sym c.lowest.ensures ∙ c.in_ok-at.was))

@@ -2,7 +2,7 @@
 use mathlib.Core.Path.{sym, ◌∙◌}
 use native.Mathlib.Omega.{arith}
 use Rattle.reach.proofs.PlainLands.{is_plain}
-use Rattle.pages.proofs.Lands.{near_kept, kept_inside}
+use Rattle.pages.proofs.Lands.{near_page, kept_inside}
 use Rattle.decide.specs.Lent.{lent_of}
 use Rattle.decide.proofs.PlainFetch.{plain_room, plain_fetch}
 use Rattle.decide.proofs.NearFetch.{near_room, near_fetch}
@@ -20,18 +20,17 @@ returns-then-plain c = rw c.load_word.ensures (sym (plain_fetch c.args.core _ c.
 -- where the fetch is near the page that is remembered
 pub place-requires : goal.place-requires
 place-requires c =
-    let inside = kept_inside (near_kept _ _ _ _ _ _ (sym c.near.ensures ∙ c.if-near.true) c.requires.known.fetches) in
+    let told = near_page _ _ _ _ _ (sym c.near.ensures ∙ c.in-Some.is) c.requires.known.fetches in
+    let inside = kept_inside _ _ _ told.kept in
     let few = c.requires.whole.ram.few in
     omega (arith, inside, few)
 
-pub load_word-requires-then-near : goal.load_word-requires-then-near
-load_word-requires-then-near c =
-    let nearby = sym c.near.ensures ∙ c.if-near.true in
-    let kept = near_kept _ _ _ _ _ _ nearby c.requires.known.fetches in
-    rw c.place.ensures (near_room c.args.core c.args.rows (lent_of c.args.execution.now c.args.bootstrap.now c.args.ram.now) _ _ nearby kept)
+pub load_word-requires-in-Some : goal.load_word-requires-in-Some
+load_word-requires-in-Some c =
+    let told = near_page _ _ _ _ _ (sym c.near.ensures ∙ c.in-Some.is) c.requires.known.fetches in
+    rw c.place.ensures (near_room c.args.core c.args.rows (lent_of c.args.execution.now c.args.bootstrap.now c.args.ram.now) _ told)
 
-pub returns-then-near : goal.returns-then-near
-returns-then-near c =
-    let nearby = sym c.near.ensures ∙ c.if-near.true in
-    let kept = near_kept _ _ _ _ _ _ nearby c.requires.known.fetches in
-    rw (c.load_word-then-near.ensures, c.place.ensures) (sym (near_fetch c.args.core c.args.rows (lent_of c.args.execution.now c.args.bootstrap.now c.args.ram.now) _ _ nearby kept))
+pub returns-in-Some : goal.returns-in-Some
+returns-in-Some c =
+    let told = near_page _ _ _ _ _ (sym c.near.ensures ∙ c.in-Some.is) c.requires.known.fetches in
+    rw (c.load_word-in-Some.ensures, c.place.ensures) (sym (near_fetch c.args.core c.args.rows (lent_of c.args.execution.now c.args.bootstrap.now c.args.ram.now) _ told))

@@ -8,8 +8,8 @@ pub returns-then-interrupts : goal.returns-then-interrupts
 unfolding decide_of
 returns-then-interrupts c = rw (← c.interrupts.ensures, c.if-interrupts.true) c.trapped.ensures
 
-pub returns-in-Word : goal.returns-in-Word
-returns-in-Word c = c.execute.ensures ∙ sym (decide_done _ _ _ _ (sym c.interrupts.ensures ∙ c.if-interrupts.false) c.fetch.ensures c.in-Word.is)
+pub returns-in-Ok : goal.returns-in-Ok
+returns-in-Ok c = c.execute.ensures ∙ sym (decide_done _ _ _ _ (sym c.interrupts.ensures ∙ c.if-interrupts.false) c.fetch.ensures c.in-Ok.is)
 
-pub returns-in-Refused : goal.returns-in-Refused
-returns-in-Refused c = c.refused.ensures ∙ sym (decide_done _ _ _ _ (sym c.interrupts.ensures ∙ c.if-interrupts.false) c.fetch.ensures c.in-Refused.is)
+pub returns-in-Err : goal.returns-in-Err
+returns-in-Err c = c.refused.ensures ∙ sym (decide_done _ _ _ _ (sym c.interrupts.ensures ∙ c.if-interrupts.false) c.fetch.ensures c.in-Err.is)

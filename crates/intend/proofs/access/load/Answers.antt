@@ -1,9 +1,9 @@
 -- `intend::access::load` meets its contract: the address, then its answer, which a plain access has without the table (`plain_lands`), and one near the page that is remembered
 -- from that page (`near_lands`).
-use Rattle.std.proofs.Common.{get_or, sym, refl, ◌∙◌, arith}
+use Rattle.std.proofs.Common.{sym, refl, ◌∙◌, arith}
 use Rattle.reach.proofs.PlainLands.{is_plain}
 use Rattle.reach.specs.declared.access.Kind.TheVariants as kind
-use Rattle.pages.proofs.Lands.{near_kept, kept_inside}
+use Rattle.pages.proofs.Lands.{near_page, kept_inside}
 use Rattle.intend.proofs.Plain.{plain_lands}
 use Rattle.intend.proofs.NearLands.{near_lands}
 use Rattle.intend.proofs.access.load.Goals as goal
@@ -22,18 +22,19 @@ returns-then-plain c =
 
 pub place-requires : goal.place-requires
 place-requires c =
-    let inside = kept_inside (near_kept _ _ _ _ _ _ (sym c.near.ensures ∙ c.if-near.true) c.requires.known.accesses) in
+    let told = near_page _ _ _ _ _ (sym c.near.ensures ∙ c.in-Some.is) c.requires.known.accesses in
+    let inside = kept_inside _ _ _ told.kept in
     omega (arith, inside)
 
-pub returns-then-near : goal.returns-then-near
-returns-then-near c =
-    let nearby = sym c.near.ensures ∙ c.if-near.true in
+pub returns-in-Some : goal.returns-in-Some
+returns-in-Some c =
+    let told = near_page _ _ _ _ _ (sym c.near.ensures ∙ c.in-Some.is) c.requires.known.accesses in
     rw (
       ← c.reg.ensures,
       ← c.addiu-va.ensures,
       ← c.load_width-width.ensures,
       c.place.ensures,
-      near_lands kind.Load c.load_width-width.result c.args.cp0 c.args.rows c.args.sizes _ (get_or c.args.pages.now 3 0) c.addiu-va.result nearby (near_kept _ _ _ _ _ _ nearby c.requires.known.accesses) refl,
+      near_lands kind.Load c.load_width-width.result c.args.cp0 c.args.rows c.args.sizes _ c.addiu-va.result told refl,
     )
 
 pub returns : goal.returns

@@ -4,16 +4,17 @@ use borrow.Author.Tests.{le-leb, lt-leb}
 use Rattle.tlb.specs.Doubled.{clash_of}
 use Rattle.tlb.proofs.doubled.clash.Goals as goal
 
-pub returns-then-a-lt536870912 : goal.returns-then-a-lt536870912
-unfolding clash_of
-returns-then-a-lt536870912 c = rw (lt-leb _ _ c.if-a-lt536870912.true)
-
 pub returns-then-matches : goal.returns-then-matches
 unfolding clash_of
-returns-then-matches c = rw (le-leb _ _ c.if-a-lt536870912.false, sym c.matches.ensures ∙ c.if-matches.true)
+returns-then-matches c = rw (le-leb _ _ c.if-a-ge536870912.true, sym c.matches.ensures ∙ c.if-matches.true)
+    c.if-matches.true
 
-pub returns : goal.returns
+pub returns-else-matches : goal.returns-else-matches
 unfolding clash_of
-returns c =
-    rw (le-leb _ _ c.if-a-lt536870912.false, sym c.matches.ensures ∙ c.if-matches.false)
-    c.matches-2.ensures
+returns-else-matches c =
+    rw (le-leb _ _ c.if-a-ge536870912.true, sym c.matches.ensures ∙ c.if-matches.false)
+    c.matches-else-matches.ensures
+
+pub returns-else-a-ge536870912 : goal.returns-else-a-ge536870912
+unfolding clash_of
+returns-else-a-ge536870912 c = simp (lt-leb _ _ c.if-a-ge536870912.false)

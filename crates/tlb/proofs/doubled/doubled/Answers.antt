@@ -1,18 +1,22 @@
--- `tlb::doubled::doubled` meets its contract. The loop's invariant: the look at the whole table is the look from entry i on.
-use mathlib.Core.Path.{◌∙◌, sym}
+-- `tlb::doubled::doubled` meets its contract: what a turn of the loop shows.
+use mathlib.Core.Path.{◌∙◌, sym, ap, refl}
 use borrow.Author.Rules.{rules}
-use Rattle.tlb.proofs.Clashes.{double_end, double_hit, double_miss}
+use lib.ListN.{get_or}
+use Rattle.tlb.specs.Entry.{no_row}
+use Rattle.tlb.specs.Doubled.{clashes_in}
+use Rattle.tlb.proofs.Clashes.{behind, double_end, double_hit, double_miss}
 use Rattle.tlb.proofs.doubled.doubled.Goals as goal
+
+pub loop-i-init : goal.loop-i-init
+loop-i-init c = refl
 
 pub loop-i-preserved : goal.loop-i-preserved
 loop-i-preserved c =
-    let at = c in
-    at.loop-i.invariant ∙ double_miss at.args.t at.loop-i.i (search rules) (sym c.clashes.ensures ∙ c.if-clashes.false)
+    c.loop-i.invariant ∙ double_miss c.args.t c.loop-i.i (search rules) (ap (clashes_in (get_or c.args.t c.loop-i.i no_row)) (sym (behind c.args.t c.loop-i.i (search rules))) ∙ sym c.clashes.ensures ∙ c.if-clashes.false)
 
-pub returns-then-i-ge16 : goal.returns-then-i-ge16
-returns-then-i-ge16 c = let at = c in sym (at.loop-i.invariant ∙ double_end at.args.t at.loop-i.i (search rules))
+pub returns : goal.returns
+returns c = sym (c.loop-i.invariant ∙ double_end c.args.t c.loop-i.i (search rules))
 
 pub returns-then-clashes : goal.returns-then-clashes
 returns-then-clashes c =
-    let at = c in
-    sym (at.loop-i.invariant ∙ double_hit at.args.t at.loop-i.i (search rules) (sym c.clashes.ensures ∙ c.if-clashes.true))
+    sym (c.loop-i.invariant ∙ double_hit c.args.t c.loop-i.i (search rules) (ap (clashes_in (get_or c.args.t c.loop-i.i no_row)) (sym (behind c.args.t c.loop-i.i (search rules))) ∙ sym c.clashes.ensures ∙ c.if-clashes.true))
