@@ -12,27 +12,17 @@ fn pair_of(low: u32, high: u32) -> u32
     low % 65536 + 65536 * (high % 65536)
 }
 
-fn wide(x: u8) -> u32
-    ensures { result ≡ x }
-{
-    x as u32
-}
-
 fn four_word(f: Four) -> u32
     ensures { result ≡ four_word f }
 {
-    wide(f.a) + 256 * (wide(f.b) + 256 * (wide(f.c) + 256 * wide(f.d)))
+    u32::from_le_bytes([f.a, f.b, f.c, f.d])
 }
 
 fn four_from(word: u32) -> Four
     ensures { result ≡ four_from word }
 {
-    Four {
-        a: (word % 256) as u8,
-        b: (word / 256 % 256) as u8,
-        c: (word / 256 / 256 % 256) as u8,
-        d: (word / 256 / 256 / 256 % 256) as u8,
-    }
+    let [a, b, c, d] = word.to_le_bytes();
+    Four { a, b, c, d }
 }
 
 // From `at` on.
@@ -40,26 +30,21 @@ pub fn put_kept(k: Kept, words: &mut [u32; 32], at: usize)
     requires { at + 4 ≤ 32 }
     ensures { words.new ≡ sets words.old at (kept_words k) }
 {
-    let four = k.four;
-    let first = pair_of(k.how, k.cylinder);
-    let second = pair_of(k.ticks, k.words);
-    let fourth = four_word(four);
-    words[at] = first;
-    words[at + 1] = second;
+    words[at] = pair_of(k.how, k.cylinder);
+    words[at + 1] = pair_of(k.ticks, k.words);
     words[at + 2] = k.place;
-    words[at + 3] = fourth;
+    words[at + 3] = four_word(k.four);
 }
 
 pub fn kept_from(first: u32, second: u32, third: u32, fourth: u32) -> Kept
     ensures { result ≡ kept_from first second third fourth }
 {
-    let four = four_from(fourth);
     Kept {
         how: first % 65536,
         cylinder: first / 65536,
         ticks: second % 65536,
         words: second / 65536,
         place: third,
-        four,
+        four: four_from(fourth),
     }
 }

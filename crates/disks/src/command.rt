@@ -1,18 +1,12 @@
 // Writes to COMMAND and DATA0 of a disk where a run holds it. `room` is the length of the RAM lent.
 ghost use Rattle.std.specs.Prelude.{◌≡◌, ◌<◌, length};
-ghost use Rattle.disks.specs.Words.{takes_in, CommandIs, DataIs};
+ghost use Rattle.disks.specs.Words.{CommandIs, DataIs};
 
 use crate::words::{disk_in, put_disk};
+use device::writes::takes_writes;
+use disk::BUSY;
 use disk::command::{commanded, is_refused, with_data};
-use disk::{BUSY, Disk};
-use word::map::{has_bit, with_bit};
-
-fn takes_writes(d: Disk, installed: u32, n: usize) -> bool
-    requires { n < 8 }
-    ensures { result ≡ takes_in installed n d }
-{
-    has_bit(n, installed) & !(d.status == BUSY)
-}
+use word::map::with_bit;
 
 // A write to COMMAND of disk `n`: the pending map after it.
 pub fn command(
@@ -28,7 +22,7 @@ pub fn command(
     ensures { CommandIs installed delay room n word words.old pending result words.new }
 {
     let d = disk_in(words, n);
-    if !takes_writes(d, installed, n) {
+    if !takes_writes(n, installed, d.status == BUSY) {
         return pending;
     }
     let next = commanded(d, room, word, delay);
@@ -42,9 +36,8 @@ pub fn data(words: &mut [u32; 56], installed: u32, n: usize, word: u32)
     ensures { DataIs installed n word words.old words.new }
 {
     let d = disk_in(words, n);
-    if !takes_writes(d, installed, n) {
+    if !takes_writes(n, installed, d.status == BUSY) {
         return;
     }
-    let next = with_data(d, word);
-    put_disk(next, words, 7 * n);
+    put_disk(with_data(d, word), words, 7 * n);
 }

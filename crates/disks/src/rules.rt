@@ -11,11 +11,8 @@ pub fn line_keeps(line: Line, installed: u32, delay: u32, room: usize) -> bool
     ensures { result ≡ line_keeps installed delay room line }
 {
     let pending = line.pending;
-    let disks = line.disks;
-    let mut ok = true;
-    for n in 0..8 {
-        let d = disks[n];
-        ok = ok & disk_keeps(has_bit(n, installed), has_bit(n, pending), delay, room, d);
-    }
-    (pending & !installed == 0) & ok
+    let each = line.disks.iter().enumerate().all(|(n, &d)| {
+        disk_keeps(has_bit(n, installed), has_bit(n, pending), delay, room, d)
+    });
+    (pending & !installed == 0) & each
 }

@@ -12,27 +12,18 @@ use crate::words::disk_in;
 use disk::Disk;
 use disk::saved::{Kept, bytes_back, given_back, ram_back};
 use disk::words::{kept_from, put_kept};
+use std::array;
 
 // Disk `n` of the line given back, with its bytes.
-fn back(n: usize, k: Kept, line: Line, ram: &mut [u8], bytes: &mut [u8]) -> Line
+fn back(n: usize, k: Kept, mut line: Line, ram: &mut [u8], bytes: &mut [u8]) -> Line
     requires { n < 8 }
     ensures { turned result ram.new bytes.new ≡ back_of n k line ram.old bytes.old }
 {
-    let pending = line.pending;
-    let mut disks = line.disks;
-    let d = disks[n];
-    let was = given_back(k, d);
+    let was = given_back(k, line.disks[n]);
     ram_back(k, ram);
     bytes_back(k, was, bytes);
-    disks[n] = was;
-    Line { disks, pending }
-}
-
-fn with_pending(pending: u32, line: Line) -> Line
-    ensures { result ≡ record { disks = line.disks; pending = pending } }
-{
-    let disks = line.disks;
-    Line { disks, pending }
+    line.disks[n] = was;
+    line
 }
 
 // What a record keeps of disk `n`, as its four words.
@@ -40,9 +31,11 @@ fn keep_one(words: &[u32; 56], n: usize, ram: &[u8], bytes: &[u8], kept: &mut [u
     requires { n < 8 }
     ensures { kept.new ≡ sets kept.old (4 * n) (kept_words (kept_of ram.now bytes.now (disk_in words.now n))) }
 {
-    let d = disk_in(words, n);
-    let k = disk::saved::keep(d, ram, bytes);
-    put_kept(k, kept, 4 * n);
+    put_kept(
+        disk::saved::keep(disk_in(words, n), ram, bytes),
+        kept,
+        4 * n,
+    );
 }
 
 // What a record keeps of all eight, before the step.
@@ -84,12 +77,7 @@ fn kept_in(words: &[u32; 32], n: usize) -> Kept
 pub fn kept_line(words: &[u32; 32]) -> [Kept; 8]
     ensures { result ≡ kepts_in words.now }
 {
-    let none = kept_from(0, 0, 0, 0);
-    let mut kept = [none; 8];
-    for n in 0..8 {
-        kept[n] = kept_in(words, n);
-    }
-    kept
+    array::from_fn(|n| kept_in(words, n))
 }
 
 // All eight given back, the last first, each with its own bytes.
@@ -110,60 +98,44 @@ pub fn back_line(
     ensures { spinning result ram.new (eight b0.new b1.new b2.new b3.new b4.new b5.new b6.new b7.new)
         ≡ undo_of (record { kept = kept; pending = pending }) (spinning line ram.old (eight b0.old b1.old b2.old b3.old b4.old b5.old b6.old b7.old)) }
 {
-    let k7 = kept[7];
-    let l7 = back(7, k7, line, ram, b7);
-    let k6 = kept[6];
-    let l6 = back(6, k6, l7, ram, b6);
-    let k5 = kept[5];
-    let l5 = back(5, k5, l6, ram, b5);
-    let k4 = kept[4];
-    let l4 = back(4, k4, l5, ram, b4);
-    let k3 = kept[3];
-    let l3 = back(3, k3, l4, ram, b3);
-    let k2 = kept[2];
-    let l2 = back(2, k2, l3, ram, b2);
-    let k1 = kept[1];
-    let l1 = back(1, k1, l2, ram, b1);
-    let k0 = kept[0];
-    let l0 = back(0, k0, l1, ram, b0);
-    with_pending(pending, l0)
+    let l7 = back(7, kept[7], line, ram, b7);
+    let l6 = back(6, kept[6], l7, ram, b6);
+    let l5 = back(5, kept[5], l6, ram, b5);
+    let l4 = back(4, kept[4], l5, ram, b4);
+    let l3 = back(3, kept[3], l4, ram, b3);
+    let l2 = back(2, kept[2], l3, ram, b2);
+    let l1 = back(1, kept[1], l2, ram, b1);
+    let l0 = back(0, kept[0], l1, ram, b0);
+    Line { pending, ..l0 }
 }
 
 // COMMAND, or DATA0, of a disk as it was before a store of the step.
 fn word_back(d: Disk, data0: bool, word: u32, status: u32) -> Disk
     ensures { result ≡ word_back data0 word status d }
 {
+    let stopped = Disk {
+        status,
+        ticks: 0,
+        words: 0,
+        ..d
+    };
     if data0 {
         return Disk {
-            status,
-            command: d.command,
             data0: word,
-            data1: d.data1,
-            ticks: 0,
-            words: 0,
-            cylinder: d.cylinder,
+            ..stopped
         };
     }
     Disk {
-        status,
         command: word,
-        data0: d.data0,
-        data1: d.data1,
-        ticks: 0,
-        words: 0,
-        cylinder: d.cylinder,
+        ..stopped
     }
 }
 
 // A store to COMMAND, or to DATA0, of disk `n` taken back, before the disks are given back.
-pub fn undo_word(line: Line, data0: bool, n: usize, word: u32, status: u32) -> Line
+pub fn undo_word(mut line: Line, data0: bool, n: usize, word: u32, status: u32) -> Line
     requires { n < 8 }
     ensures { result ≡ undo_word data0 n word status line }
 {
-    let pending = line.pending;
-    let mut disks = line.disks;
-    let d = disks[n];
-    let was = word_back(d, data0, word, status);
-    disks[n] = was;
-    Line { disks, pending }
+    line.disks[n] = word_back(line.disks[n], data0, word, status);
+    line
 }

@@ -19,8 +19,7 @@ fn turn(words: &mut [u32; 56], n: usize, pending: u32, ram: &mut [u8], bytes: &m
     }
     let d = disk_in(words, n);
     let one = tick_one(d, ram, bytes);
-    let next = one.disk;
-    put_disk(next, words, 7 * n);
+    put_disk(one.disk, words, 7 * n);
     pending_on(n, one.finished, pending)
 }
 
@@ -56,11 +55,7 @@ pub fn tick(
 pub fn is_spinning(words: &[u32; 56]) -> bool
     ensures { result ≡ any_busy (disks_in words.now) }
 {
-    let mut some = false;
-    for n in 0..8 {
-        some = some | (words[7 * n] == BUSY);
-    }
-    some
+    (0..8).any(|n| words[7 * n] == BUSY)
 }
 
 fn ends(words: &[u32; 56], n: usize) -> bool
@@ -77,9 +72,5 @@ fn ends(words: &[u32; 56], n: usize) -> bool
 pub fn is_ending(words: &[u32; 56]) -> bool
     ensures { result ≡ any_ending (disks_in words.now) }
 {
-    let mut some = false;
-    for n in 0..8 {
-        some = some | ends(words, n);
-    }
-    some
+    (0..8).any(|n| ends(words, n))
 }

@@ -5,7 +5,7 @@ ghost use Rattle.word.specs.Lists.{flat};
 ghost use Rattle.disks.specs.Words.{disk_in, disks_in, disk_words};
 
 use disk::Disk;
-use disk::reset::reset;
+use std::array;
 
 pub fn disk_in(words: &[u32; 56], n: usize) -> Disk
     requires { n < 8 }
@@ -39,20 +39,14 @@ pub fn put_disk(d: Disk, words: &mut [u32; 56], at: usize)
 pub fn unpacked(words: &[u32; 56]) -> [Disk; 8]
     ensures { result ≡ disks_in words.now }
 {
-    let absent = reset(false, 0);
-    let mut disks = [absent; 8];
-    for n in 0..8 {
-        disks[n] = disk_in(words, n);
-    }
-    disks
+    array::from_fn(|n| disk_in(words, n))
 }
 
 pub fn packed(disks: [Disk; 8]) -> [u32; 56]
     ensures { result ≡ flat disk_words disks }
 {
     let mut words = [0u32; 56];
-    for n in 0..8 {
-        let d = disks[n];
+    for (n, &d) in disks.iter().enumerate() {
         put_disk(d, &mut words, 7 * n);
     }
     words

@@ -1,5 +1,5 @@
 -- The moves of the printers' line on the words that a run holds, over plain values: a printer that was put back is the one that changed.
-use Rattle.std.specs.Prelude.{◌≡◌, ℕ, ◌+◌, ◌-◌, ◌*◌, ◌<◌, Bool, true, false, cond, ◌&&◌, eqb, ltb, leb, List, length, get_or, set}
+use Rattle.std.specs.Prelude.{◌≡◌, ℕ, ◌+◌, ◌-◌, ◌*◌, ◌<◌, Bool, true, false, cond, ◌&&◌, eqb, ltb, leb, List, length, get_or, set, Option, Some, None, is_some, unwrap_or}
 use mathlib.Core.Path.{refl, sym, ap, ◌∙◌}
 use native.Mathlib.Omega.{arith}
 use borrow.Author.Tests.{eqb-true, eqb-false, eq-eqb, ne_eqb, lt-leb}
@@ -12,7 +12,7 @@ use Rattle.printer.specs.declared.Printer.{Printer}
 use Rattle.printer.specs.declared.tick.One.{One}
 use Rattle.state.specs.Layout.{printer_words}
 use Rattle.held.specs.Board.{printer_in, printers_in}
-use Rattle.held.specs.Line.{OneHeldIs, GoesOn, WaitIs, takes_in, CommandIs, DataIs, KeptIs}
+use Rattle.held.specs.Line.{OneHeldIs, GoesOn, WaitIs, takes_in, CommandIs, DataIs, kept_at}
 use Rattle.held.proofs.Board.{store_five}
 use Rattle.held.proofs.Stored.{stored_printer, stored_forty, printer_at}
 
@@ -124,17 +124,26 @@ not_ended true c = refl
 not_ended false c = refl
 
 -- a printer with more than one tick left prints nothing
-pub goes_on : (words : List ℕ) (n : ℕ) (paper : List ℕ) → 1 < get_or words (5 * n + 3) 0 → KeptIs n words paper (record { on = false; byte = 0 })
+pub goes_on : (words : List ℕ) (n : ℕ) (paper : List ℕ) → 1 < get_or words (5 * n + 3) 0 → None ≡ kept_at n words paper
 goes_on words n paper more =
     let p = printer_in words n in
     let last : Bool = eqb p.command 2 && ltb p.count (room_of paper) in
     let off : prints (room_of paper) p ≡ false = ap (λ (b : Bool). (is_busy p && b) && last) (lt-leb p.left 1 more) ∙ not_ended (is_busy p) last in
-    record { on_is = sym off; byte_is = sym (ap (λ (b : Bool). cond b (get_or paper (place_of (room_of paper) n p.count) 0) 0) off) }
+    sym (ap (λ (b : Bool). cond b (Some (get_or paper (place_of (room_of paper) n p.count) 0)) None) off)
 
-pub looked_at : (words : List ℕ) (n : ℕ) (paper : List ℕ) {p : Printer} {on : Bool} {byte : ℕ} → p ≡ printer_in words n → on ≡ prints (room_of paper) p →
-    byte ≡ cond (prints (room_of paper) p) (get_or paper (place_of (room_of paper) n p.count) 0) 0 → KeptIs n words paper (record { on = on; byte = byte })
-looked_at words n paper is on byte =
-    record {
-      on_is = on ∙ ap (prints (room_of paper)) is;
-      byte_is = byte ∙ ap (λ (q : Printer). cond (prints (room_of paper) q) (get_or paper (place_of (room_of paper) n q.count) 0) 0) is;
-    }
+-- the byte of a printer that is looked at
+abbrev pub byte_of : ℕ → List ℕ → Printer → Option ℕ
+byte_of n paper p = cond (prints (room_of paper) p) (Some (get_or paper (place_of (room_of paper) n p.count) 0)) None
+
+pub looked_at : (words : List ℕ) (n : ℕ) (paper : List ℕ) {p : Printer} {byte : Option ℕ} → p ≡ printer_in words n → byte ≡ byte_of n paper p →
+    byte ≡ kept_at n words paper
+looked_at words n paper is e = e ∙ ap (byte_of n paper) is
+
+-- whether there is a byte tells whether the printer prints, and 0 stands where there is none
+pub there_told : (on : Bool) (byte : ℕ) → is_some (cond on (Some byte) None) ≡ on
+there_told true byte = refl
+there_told false byte = refl
+
+pub byte_told : (on : Bool) (byte : ℕ) → unwrap_or (cond on (Some byte) None) 0 ≡ cond on byte 0
+byte_told true byte = refl
+byte_told false byte = refl

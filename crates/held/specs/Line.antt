@@ -1,12 +1,11 @@
 -- What the moves of the printers' line leave of the forty words that a run holds. words' and paper' are what stands behind the references afterwards.
-use Rattle.std.specs.Prelude.{◌≡◌, ℕ, ◌<◌, Bool, true, false, cond, not, ◌&&◌, List, length, slice_index, slice_set}
+use Rattle.std.specs.Prelude.{◌≡◌, ℕ, ◌<◌, Bool, true, false, cond, not, ◌&&◌, List, length, slice_index, slice_set, Option, Some, None}
 use Rattle.word.specs.Map.{bit}
 use Rattle.printer.specs.Tick.{printing, room_of, place_of, is_busy, finishes, prints, printer_ticked, paper_ticked, ticked_of}
 use Rattle.printer.specs.Command.{command_of, data_of}
 use Rattle.printer.specs.declared.Line.{Line}
 use Rattle.printer.specs.declared.Printer.{Printer}
 use Rattle.held.specs.Board.{printer_in, printers_in}
-use Rattle.held.specs.declared.line.Kept.{Kept}
 
 -- ---- aids to proofs: nothing that a reader must believe
 
@@ -50,7 +49,7 @@ pub record DataIs (installed n word : ℕ) (words words' : List ℕ) : Type 0 wh
   pub line_is : (pending : ℕ) → line_in words' pending ≡ data_of installed n word (line_in words pending)
   pub forty : length words' ≡ 40
 
--- what a record keeps of paper for printer n
-pub record KeptIs (n : ℕ) (words paper : List ℕ) (r : Kept) : Type 0 where
-  pub on_is : r.on ≡ prints (room_of paper) (printer_in words n)
-  pub byte_is : r.byte ≡ cond (prints (room_of paper) (printer_in words n)) (slice_index paper (place_of (room_of paper) n (printer_in words n).count)) 0
+-- the byte that printer n overwrites, if it prints
+abbrev pub kept_at : ℕ → List ℕ → List ℕ → Option ℕ
+kept_at n words paper =
+    cond (prints (room_of paper) (printer_in words n)) (Some (slice_index paper (place_of (room_of paper) n (printer_in words n).count))) None

@@ -9,24 +9,40 @@ use state::machine::Core;
 pub fn core_in(words: &[u32; 14]) -> Core
     ensures { result ≡ core_in words.now }
 {
+    let [
+        hi,
+        lo,
+        pc,
+        next_pc,
+        index,
+        random,
+        entry_hi,
+        entry_lo,
+        bad_vaddr,
+        status,
+        cause,
+        epc,
+        slot,
+        branch,
+    ] = *words;
     let cp0 = Cp0 {
-        index: words[4],
-        random: words[5],
-        entry_hi: words[6],
-        entry_lo: words[7],
-        bad_vaddr: words[8],
-        status: words[9],
-        cause: words[10],
-        epc: words[11],
+        index,
+        random,
+        entry_hi,
+        entry_lo,
+        bad_vaddr,
+        status,
+        cause,
+        epc,
     };
     Core {
-        hi: words[0],
-        lo: words[1],
-        pc: words[2],
-        next_pc: words[3],
-        cp0: cp0,
-        slot: words[12],
-        branch: words[13],
+        hi,
+        lo,
+        pc,
+        next_pc,
+        cp0,
+        slot,
+        branch,
     }
 }
 

@@ -13,6 +13,8 @@ pub mod line; // the moves of the printers' line
 
 use clock::Clock;
 use printer::Printer;
+use state::encode::printer_words;
+use std::array;
 
 // What a run holds of the board beside the settings and the printers' words. `soon` tells in how many ticks a printer ends
 // at the earliest: 0 where none works, and 1 where that has not been looked at. Only where it is 1 is a printer looked at.
@@ -20,9 +22,11 @@ use printer::Printer;
 pub struct Held {
     pub clock: Clock,
     pub pending: u32,
+    // Stays: a number, for an enum that is handed on costs every step (docs/SPEED.md, "The pages that are remembered").
     pub soon: u32,
 }
 
+// Stays: a run changes the words where they stand, and this and `put_printer` alone say which five are a printer's.
 pub fn printer_in(words: &[u32; 40], n: usize) -> Printer
     requires { n < 8 }
     ensures { result ≡ printer_in words.now n }
@@ -40,18 +44,7 @@ pub fn printer_in(words: &[u32; 40], n: usize) -> Printer
 pub fn unpacked(words: &[u32; 40]) -> [Printer; 8]
     ensures { result ≡ printers_in words.now }
 {
-    let absent = Printer {
-        status: 0,
-        command: 0,
-        data0: 0,
-        left: 0,
-        count: 0,
-    };
-    let mut printers = [absent; 8];
-    for n in 0..8 {
-        printers[n] = printer_in(words, n);
-    }
-    printers
+    array::from_fn(|n| printer_in(words, n))
 }
 
 pub fn put_printer(p: Printer, words: &mut [u32; 40], at: usize)
@@ -68,10 +61,5 @@ pub fn put_printer(p: Printer, words: &mut [u32; 40], at: usize)
 pub fn packed(printers: [Printer; 8]) -> [u32; 40]
     ensures { result ≡ flat printer_words printers }
 {
-    let mut words = [0u32; 40];
-    for n in 0..8 {
-        let p = printers[n];
-        put_printer(p, &mut words, 5 * n);
-    }
-    words
+    printer_words(printers)
 }

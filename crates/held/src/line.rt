@@ -3,14 +3,15 @@ ghost use Rattle.std.specs.Prelude.{◌≡◌, ℕ, ◌-◌, ◌<◌, ◌≤◌,
 ghost use Rattle.printer.specs.Tick.{any_ending};
 ghost use Rattle.printer.specs.Saved.{saved_paper_of};
 ghost use Rattle.held.specs.Board.{printer_in, printers_in, Waits, least_of};
-ghost use Rattle.held.specs.Line.{OneHeldIs, TicksIs, GoesOn, WaitIs, WaitsIs, CommandIs, DataIs, KeptIs};
+ghost use Rattle.held.specs.Line.{OneHeldIs, TicksIs, GoesOn, WaitIs, WaitsIs, CommandIs, DataIs, kept_at};
 
 use crate::{printer_in, put_printer};
+use device::writes::takes_writes;
 use printer::command::{commanded, is_illegal};
 use printer::saved::{SavedPaper, saved_byte};
-use printer::tick::{pending_on, prints, tick_one};
+use printer::tick::{pending_on, tick_one};
 use printer::{BUSY, Printer};
-use word::map::{has_bit, with_bit};
+use word::map::with_bit;
 
 // The tick of printer `n`: whether it finished. Of one that goes on, only the ticks left are written.
 fn tick_at(words: &mut [u32; 40], n: usize, paper: &mut [u8]) -> bool
@@ -26,12 +27,12 @@ fn tick_at(words: &mut [u32; 40], n: usize, paper: &mut [u8]) -> bool
         return false;
     }
     let one = tick_one(n, p, paper);
-    let next = one.printer;
-    put_printer(next, words, 5 * n);
+    put_printer(one.printer, words, 5 * n);
     one.finished
 }
 
 // The tick of all eight: the pending map after it.
+// Stays: `n` here, in `wait`, `soon_in` and `saved_paper` names a printer's five words, and no element is walked that an iterator could give.
 pub fn tick(words: &mut [u32; 40], pending: u32, paper: &mut [u8]) -> u32
     requires { (length words.old ≡ 40) × (length paper.old ≤ 65536) }
     ensures { TicksIs words.old pending paper.old result words.new paper.new }
@@ -88,10 +89,7 @@ fn least(words: &[u32; 40], n: usize, soon: u32) -> u32
     if soon == 0 {
         return left;
     }
-    if left <= soon {
-        return left;
-    }
-    soon
+    left.min(soon)
 }
 
 // In how many ticks the next printer ends; 0 where none works.
@@ -109,19 +107,7 @@ pub fn soon_in(words: &[u32; 40]) -> u32
 pub fn ending_in(words: &[u32; 40]) -> bool
     ensures { result ≡ any_ending (printers_in words.now) }
 {
-    let mut some = false;
-    for n in 0..8 {
-        let works = words[5 * n] == BUSY;
-        some = some | (works & (words[5 * n + 3] <= 1));
-    }
-    some
-}
-
-fn takes_writes(p: Printer, installed: u32, n: usize) -> bool
-    requires { n < 8 }
-    ensures { result ≡ Rattle.held.specs.Line.takes_in installed n p }
-{
-    has_bit(n, installed) & !(p.status == BUSY)
+    (0..8).any(|n| (words[5 * n] == BUSY) & (words[5 * n + 3] <= 1))
 }
 
 // A write to COMMAND: the pending map after it.
@@ -137,11 +123,10 @@ pub fn command(
     ensures { CommandIs installed delay n word words.old pending result words.new }
 {
     let p = printer_in(words, n);
-    if !takes_writes(p, installed, n) {
+    if !takes_writes(n, installed, p.status == BUSY) {
         return pending;
     }
-    let next = commanded(p, word, delay);
-    put_printer(next, words, 5 * n);
+    put_printer(commanded(p, word, delay), words, 5 * n);
     with_bit(n, is_illegal(word), pending)
 }
 
@@ -151,40 +136,20 @@ pub fn data(words: &mut [u32; 40], installed: u32, n: usize, word: u32)
     ensures { DataIs installed n word words.old words.new }
 {
     let p = printer_in(words, n);
-    if !takes_writes(p, installed, n) {
-        return;
+    if takes_writes(n, installed, p.status == BUSY) {
+        put_printer(Printer { data0: word, ..p }, words, 5 * n);
     }
-    let next = Printer {
-        status: p.status,
-        command: p.command,
-        data0: word,
-        left: p.left,
-        count: p.count,
-    };
-    put_printer(next, words, 5 * n);
 }
 
-// Whether a printer prints in this step, and the byte that it overwrites.
-#[derive(Clone, Copy)]
-pub struct Kept {
-    pub on: bool,
-    pub byte: u8,
-}
-
-// Of a printer that goes on, only the ticks left are looked at.
-fn saved_at(words: &[u32; 40], n: usize, paper: &[u8]) -> Kept
+// The byte that printer `n` overwrites in this step, if it prints. Of one that goes on, only the ticks left are looked at.
+fn saved_at(words: &[u32; 40], n: usize, paper: &[u8]) -> Option<u8>
     requires { n < 8 }
-    ensures { KeptIs n words.now paper.now result }
+    ensures { result ≡ kept_at n words.now paper.now }
 {
     if 1 < words[5 * n + 3] {
-        return Kept { on: false, byte: 0 };
+        return None;
     }
-    let room = paper.len() / 8;
-    let p = printer_in(words, n);
-    Kept {
-        on: prints(room, p),
-        byte: saved_byte(n, p, paper),
-    }
+    saved_byte(n, printer_in(words, n), paper)
 }
 
 // What a record keeps of paper.
@@ -194,9 +159,9 @@ pub fn saved_paper(words: &[u32; 40], paper: &[u8]) -> SavedPaper
     let mut mask: u32 = 0;
     let mut bytes = [0u8; 8];
     for n in 0..8 {
-        let one = saved_at(words, n, paper);
-        mask = with_bit(n, one.on, mask);
-        bytes[n] = one.byte;
+        let byte = saved_at(words, n, paper);
+        mask = with_bit(n, byte.is_some(), mask);
+        bytes[n] = byte.unwrap_or(0);
     }
     SavedPaper { mask, bytes }
 }

@@ -37,8 +37,14 @@ fn put_record(
         (begun_in (held_record core.now timer pending paper words.now) (slot 512 journal.old next)) }
 {
     let at = SLOT * next;
-    let end = at + SLOT;
-    encode(core, timer, pending, paper, words, &mut journal[at..end]);
+    encode(
+        core,
+        timer,
+        pending,
+        paper,
+        words,
+        &mut journal[at..at + SLOT],
+    );
 }
 
 // The first part of a step's record, before the step: all that the run holds. The saved words stay those of the slot till `ended` writes them. With no slots
@@ -71,24 +77,14 @@ pub fn ended(journal: &mut [u8], mark: Journal, s: Saved) -> Journal
     ensures { ring_of result journal.new ≡ ended_of mark s journal.old }
 {
     let slots = journal.len() / SLOT;
-    let hand = mark.on_hand;
     let next = mark.next_slot as usize;
     if slots == 0 {
         return mark;
     }
-    let words = saved_words(s);
-    put_words(&words, journal, SLOT * next + SAVED);
-    let rest = [0u32; 65];
-    put_words(&rest, journal, SLOT * next + UNUSED);
-    let after = ring::next_slot(slots, next) as u32;
-    if (hand as usize) < slots {
-        return Journal {
-            on_hand: hand + 1,
-            next_slot: after,
-        };
-    }
+    put_words(&saved_words(s), journal, SLOT * next + SAVED);
+    put_words(&[0u32; 65], journal, SLOT * next + UNUSED);
     Journal {
-        on_hand: hand,
-        next_slot: after,
+        on_hand: slots.min(mark.on_hand as usize + 1) as u32,
+        next_slot: ring::next_slot(slots, next) as u32,
     }
 }

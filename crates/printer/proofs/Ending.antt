@@ -10,7 +10,7 @@ use Rattle.printer.specs.declared.Printer.{Printer}
 use Rattle.printer.specs.Tick.{Printing, no_printer, finishes, printer_ticked, ticked_of, some_of, any_ending}
 use Rattle.printer.proofs.Passed.{room, pending_told}
 
-some_told : (test : Printer → Bool) (n : ℕ) (printers : List Printer) → some_of test n printers ≡ device.some_of no_printer test n printers
+pub some_told : (test : Printer → Bool) (n : ℕ) (printers : List Printer) → some_of test n printers ≡ device.some_of no_printer test n printers
 unfolding some_of device.some_of
 some_told test zero printers = refl
 some_told test (suc n) printers = rw (some_told test n printers)

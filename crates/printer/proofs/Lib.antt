@@ -2,6 +2,7 @@ pub mod Shown
 pub mod Delay
 pub mod Each
 pub mod Ending
+pub mod FromBack
 pub mod LineKeeps
 pub mod Notes
 pub mod Passed

@@ -2,32 +2,29 @@
 ghost use Rattle.std.specs.Prelude.{◌≡◌};
 ghost use Rattle.printer.specs.Command.{is_illegal, commanded_of};
 
-use crate::{BUSY, Printer};
+use crate::{ACK, BUSY, ILLEGAL, PRINTCHR, Printer, READY, RESET};
 
 pub fn is_illegal(word: u32) -> bool
     ensures { result ≡ is_illegal word }
 {
-    !((word == 0) | (word == 2)) & !(word == 1)
+    !((word == RESET) | (word == PRINTCHR)) & !(word == ACK)
 }
 
 pub fn commanded(p: Printer, word: u32, delay: u32) -> Printer
     ensures { result ≡ commanded_of delay word p }
 {
-    if (word == 0) | (word == 2) {
+    if (word == RESET) | (word == PRINTCHR) {
         return Printer {
             status: BUSY,
             command: word,
-            data0: p.data0,
             left: delay,
-            count: p.count,
+            ..p
         };
     }
-    let status: u32 = if word == 1 { 1 } else { 2 };
+    let status = if word == ACK { READY } else { ILLEGAL };
     Printer {
         status,
         command: word,
-        data0: p.data0,
-        left: p.left,
-        count: p.count,
+        ..p
     }
 }

@@ -11,14 +11,21 @@ pub mod tick;
 // STATUS, by the manual's 5.6.
 pub const READY: u32 = 1;
 
+pub const ILLEGAL: u32 = 2;
+
 pub const BUSY: u32 = 3;
 
 pub const PRINT_ERROR: u32 = 4;
 
 // COMMAND.
+pub const RESET: u32 = 0;
+
+pub const ACK: u32 = 1;
+
 pub const PRINTCHR: u32 = 2;
 
-#[derive(Clone, Copy)]
+// One that is not installed is all 0.
+#[derive(Clone, Copy, PartialEq, Eq, Default)]
 pub struct Printer {
     pub status: u32,
     pub command: u32,
@@ -30,6 +37,7 @@ pub struct Printer {
 }
 
 // What a tick and a command change, paper aside.
+// Stays: beside the disks' own Line, since no generic struct holds an array of its parameter.
 #[derive(Clone, Copy)]
 pub struct Line {
     pub printers: [Printer; 8],

@@ -1,5 +1,5 @@
 // What a record keeps of paper, and taking it back.
-ghost use Rattle.std.specs.Prelude.{◌≡◌, ◌<◌, get_or, cond};
+ghost use Rattle.std.specs.Prelude.{◌≡◌, ◌<◌, get_or, cond, Some, None};
 ghost use Rattle.printer.specs.Tick.{room_of, place_of, prints};
 ghost use Rattle.printer.specs.Saved.{put_at, restored_paper};
 
@@ -7,6 +7,7 @@ use crate::Printer;
 use crate::tick::prints;
 use word::map::has_bit;
 
+// Stays: a map and eight bytes, as the record's words hold them (`small_words` and `paper_at` of the crate record).
 #[derive(Clone, Copy)]
 pub struct SavedPaper {
     // The printers that print.
@@ -15,18 +16,19 @@ pub struct SavedPaper {
     pub bytes: [u8; 8],
 }
 
-pub fn saved_byte(n: usize, p: Printer, paper: &[u8]) -> u8
+// The byte that a printer overwrites in this step, if it prints.
+pub fn saved_byte(n: usize, p: Printer, paper: &[u8]) -> Option<u8>
     requires { n < 8 }
     ensures { result
         ≡ cond (prints (room_of paper.now) p)
-        (get_or paper.now (place_of (room_of paper.now) n p.count) 0)
-        0 }
+        (Some (get_or paper.now (place_of (room_of paper.now) n p.count) 0))
+        None }
 {
     let room = paper.len() / 8;
     if prints(room, p) {
-        return paper[n * room + p.count as usize];
+        return Some(paper[n * room + p.count as usize]);
     }
-    0
+    None
 }
 
 // A place beyond the paper, as only a record that does not fit has, is passed over.
@@ -47,12 +49,7 @@ fn put_at(on: bool, n: usize, p: Printer, byte: u8, paper: &mut [u8])
 pub fn restore_paper(saved: SavedPaper, printers: [Printer; 8], paper: &mut [u8])
     ensures { paper.new ≡ restored_paper saved printers paper.old }
 {
-    let mask = saved.mask;
-    let bytes = saved.bytes;
-    let mut n: usize = 8;
-    while 0 < n {
-        n = n - 1;
-        let p = printers[n];
-        put_at(has_bit(n, mask), n, p, bytes[n], paper);
+    for (n, &p) in printers.iter().enumerate().rev() {
+        put_at(has_bit(n, saved.mask), n, p, saved.bytes[n], paper);
     }
 }

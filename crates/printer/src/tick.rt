@@ -25,10 +25,9 @@ fn ended_with(status: u32, count: u32, p: Printer) -> Printer
 {
     Printer {
         status,
-        command: p.command,
-        data0: p.data0,
         left: 0,
         count,
+        ..p
     }
 }
 
@@ -77,11 +76,8 @@ pub fn tick_one(n: usize, p: Printer, paper: &mut [u8]) -> One
     if 1 < p.left {
         return One {
             printer: Printer {
-                status: p.status,
-                command: p.command,
-                data0: p.data0,
                 left: p.left - 1,
-                count: p.count,
+                ..p
             },
             finished: false,
         };

@@ -4,13 +4,14 @@ ghost use Rattle.word.specs.Lists.{tabulate};
 ghost use Rattle.state.specs.Layout.{cp0_from, core_from};
 ghost use Rattle.record.specs.Layout.{slot_word, paper_at, saved_at, printer_at, record_of};
 
-use crate::{KIND, OLD, PC, PLACE, Record, Saved};
+use crate::{KIND, OLD, PC, PLACE, RAM, REGISTER, Record, Saved, TLB_ROW};
 use cp0::registers::Cp0;
 use memory::load_word;
 use memory::words::put_words;
 use printer::Printer;
 use printer::saved::SavedPaper;
 use state::machine::Core;
+use std::array;
 use tlb::Row;
 
 pub fn word(slot: &[u8], k: usize) -> u32
@@ -73,9 +74,9 @@ fn saved_by(kind: u32, which: u32, first: u32, second: u32) -> Saved
         low: second,
     };
     match kind {
-        1 => Saved::Register(which, first),
-        2 => Saved::TlbRow(which, row),
-        3 => Saved::RamWord(which, first, second),
+        REGISTER => Saved::Register(which, first),
+        TLB_ROW => Saved::TlbRow(which, row),
+        RAM => Saved::RamWord(which, first, second),
         _ => Saved::Nothing,
     }
 }
@@ -112,18 +113,7 @@ fn printers(slot: &[u8]) -> [Printer; 8]
     requires { length slot.now ≡ 512 }
     ensures { result ≡ tabulate 8 (printer_at (slot_word slot.now)) }
 {
-    let absent = Printer {
-        status: 0,
-        command: 0,
-        data0: 0,
-        left: 0,
-        count: 0,
-    };
-    let mut printers = [absent; 8];
-    for i in 0..8 {
-        printers[i] = printer(slot, i);
-    }
-    printers
+    array::from_fn(|i| printer(slot, i))
 }
 
 // The record that a slot holds.
@@ -131,18 +121,12 @@ pub fn decode(slot: &[u8]) -> Record
     requires { length slot.now ≡ 512 }
     ensures { result ≡ record_of slot.now }
 {
-    let core = core(slot);
-    let timer = word(slot, 14);
-    let pending = word(slot, 15);
-    let paper = paper(slot);
-    let saved = saved(slot);
-    let printers = printers(slot);
     Record {
-        core,
-        timer,
-        pending,
-        paper,
-        saved,
-        printers,
+        core: core(slot),
+        timer: word(slot, 14),
+        pending: word(slot, 15),
+        paper: paper(slot),
+        saved: saved(slot),
+        printers: printers(slot),
     }
 }

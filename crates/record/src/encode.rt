@@ -2,7 +2,7 @@
 ghost use Rattle.std.specs.Prelude.{◌≡◌, length};
 ghost use Rattle.record.specs.Layout.{small_words, saved_words, laid_of};
 
-use crate::Saved;
+use crate::{NOTHING, RAM, REGISTER, Saved, TLB_ROW};
 use memory::load_word;
 use memory::words::put_words;
 use printer::saved::SavedPaper;
@@ -24,10 +24,10 @@ pub fn saved_words(s: Saved) -> [u32; 4]
     ensures { result ≡ saved_words s }
 {
     match s {
-        Saved::Nothing => [0, 0, 0, 0],
-        Saved::Register(n, old) => [1, n, old, 0],
-        Saved::TlbRow(i, row) => [2, i, row.high, row.low],
-        Saved::RamWord(place, old, distance) => [3, place, old, distance],
+        Saved::Nothing => [NOTHING, 0, 0, 0],
+        Saved::Register(n, old) => [REGISTER, n, old, 0],
+        Saved::TlbRow(i, row) => [TLB_ROW, i, row.high, row.low],
+        Saved::RamWord(place, old, distance) => [RAM, place, old, distance],
     }
 }
 

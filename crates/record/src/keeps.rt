@@ -4,7 +4,7 @@ ghost use Rattle.record.specs.Layout.{slot_word};
 ghost use Rattle.record.specs.Keeps.{paper_keeps, saved_keeps, rest_keeps, keeps_layout};
 
 use crate::decode::{paper, word};
-use crate::{KIND, OLD, PLACE};
+use crate::{KIND, NOTHING, OLD, PLACE, RAM, REGISTER, TLB_ROW};
 use printer::saved::SavedPaper;
 use word::map::has_bit;
 
@@ -12,10 +12,10 @@ fn saved_keeps(kind: u32, which: u32, first: u32, second: u32) -> bool
     ensures { result ≡ saved_keeps kind which first second }
 {
     match kind {
-        0 => (which == 0) & (first == 0) & (second == 0),
-        1 => (1 <= which) & (which <= 31) & (second == 0),
-        2 => which < 16,
-        3 => (which % 4 == 0) & (second < 65536),
+        NOTHING => (which == 0) & (first == 0) & (second == 0),
+        REGISTER => (1 <= which) & (which <= 31) & (second == 0),
+        TLB_ROW => which < 16,
+        RAM => (which % 4 == 0) & (second < 65536),
         _ => false,
     }
 }
@@ -23,24 +23,19 @@ fn saved_keeps(kind: u32, which: u32, first: u32, second: u32) -> bool
 fn paper_keeps(p: SavedPaper) -> bool
     ensures { result ≡ paper_keeps p }
 {
-    let mask = p.mask;
-    let bytes = p.bytes;
-    let mut ok = true;
-    for n in 0..8 {
-        ok = ok & (has_bit(n, mask) | (bytes[n] == 0));
-    }
-    (mask < 256) & ok
+    let each = p
+        .bytes
+        .iter()
+        .enumerate()
+        .all(|(n, &byte)| has_bit(n, p.mask) | (byte == 0));
+    (p.mask < 256) & each
 }
 
 fn rest_keeps(slot: &[u8]) -> bool
     requires { length slot.now ≡ 512 }
     ensures { result ≡ rest_keeps (slot_word slot.now) }
 {
-    let mut ok = true;
-    for k in 0..65 {
-        ok = ok & (word(slot, 63 + k) == 0);
-    }
-    ok
+    (63..128).all(|k| word(slot, k) == 0)
 }
 
 pub fn keeps_layout(slot: &[u8]) -> bool

@@ -19,7 +19,13 @@ pub const PLACE: usize = 60;
 
 pub const OLD: usize = 61;
 
-// The kind of a word of RAM.
+// The kinds of what was saved.
+pub const NOTHING: u32 = 0;
+
+pub const REGISTER: u32 = 1;
+
+pub const TLB_ROW: u32 = 2;
+
 pub const RAM: u32 = 3;
 
 // What the step's effect overwrites beside the small words.

@@ -8,10 +8,13 @@ ghost use Rattle.rules.specs.Rules.{header_keeps, disks_keep, bytes_keep, cause_
 use cp0::registers::Cp0;
 use printer::rules::line_keeps;
 use state::decode::decode;
-use state::machine::{Journal, Machine};
+use state::machine::{Cpu, Journal, Machine, Settings};
 use tlb::Row;
 use word::big::word_at;
 use word::map::has_bit;
+
+// Where in an image the disks' words begin.
+const DISKS: usize = 509;
 
 // The bits that each register may have.
 const STATUS: u32 = 0x1740FF3F;
@@ -58,11 +61,7 @@ fn disks_keep(image: &[u8]) -> bool
     requires { length image.now ≡ 741 }
     ensures { result ≡ disks_keep image.now }
 {
-    let mut ok = true;
-    for k in 0..232 {
-        ok = ok & (image[509 + k] == 0);
-    }
-    ok
+    image[DISKS..].iter().all(|&byte| byte == 0)
 }
 
 pub fn machine_keeps(m: Machine, paper: usize, journal: usize) -> bool
@@ -75,16 +74,17 @@ pub fn machine_keeps(m: Machine, paper: usize, journal: usize) -> bool
 pub fn state_keeps(m: Machine, paper: usize) -> bool
     ensures { result ≡ state_keeps m paper }
 {
-    let cpu = m.cpu;
-    let core = cpu.core;
-    let tlb = cpu.tlb;
-    let board = m.board;
-    let s = board.settings;
-    let line = board.line;
+    let Cpu { core, tlb, .. } = m.cpu;
+    let Settings {
+        scale,
+        delay,
+        installed,
+    } = m.board.settings;
+    let line = m.board.line;
     cp0_keeps(core.cp0, line.pending)
         & tlb_keeps(tlb)
-        & ranges_keep(s.scale as u64, s.delay as u64, s.installed as u64)
-        & line_keeps(line, s.installed, s.delay, paper / 8)
+        & ranges_keep(u64::from(scale), u64::from(delay), u64::from(installed))
+        & line_keeps(line, installed, delay, paper / 8)
         & slot_keeps(core.slot, core.branch)
 }
 
@@ -131,12 +131,7 @@ fn entry_keeps(high: u32, low: u32) -> bool
 fn tlb_keeps(rows: [Row; 16]) -> bool
     ensures { result ≡ tlb_keeps rows }
 {
-    let mut ok = true;
-    for i in 0..16 {
-        let r = rows[i];
-        ok = ok & entry_keeps(r.high, r.low);
-    }
-    ok
+    rows.iter().all(|row| entry_keeps(row.high, row.low))
 }
 
 // The ranges of row 6, also of the numbers that reset is given.

@@ -7,18 +7,17 @@ use crate::machine::{Board, Core, Cpu, Journal, Machine, Settings};
 use clock::Clock;
 use cp0::registers::Cp0;
 use printer::{Line, Printer};
+use std::array;
 use tlb::Row;
 
-fn word(body: &[u8], k: usize) -> u32
-    requires body_len { length body.now ≡ 736 }
-    requires k_bound { k < 184 }
+fn word(body: &[u8; 736], k: usize) -> u32
+    requires { k < 184 }
     ensures { result ≡ body_word body.now k }
 {
     word::big::word_at(body, 4 * k)
 }
 
-fn registers(body: &[u8]) -> [u32; 32]
-    requires { length body.now ≡ 736 }
+fn registers(body: &[u8; 736]) -> [u32; 32]
     ensures { result ≡ 0 ∷ tabulate 31 (body_word body.now) }
 {
     let mut regs = [0u32; 32];
@@ -26,8 +25,7 @@ fn registers(body: &[u8]) -> [u32; 32]
     regs
 }
 
-fn cp0(body: &[u8]) -> Cp0
-    requires { length body.now ≡ 736 }
+fn cp0(body: &[u8; 736]) -> Cp0
     ensures { result ≡ cp0_from (core_base + 4) (body_word body.now) }
 {
     Cp0 {
@@ -42,8 +40,7 @@ fn cp0(body: &[u8]) -> Cp0
     }
 }
 
-fn core(body: &[u8]) -> Core
-    requires { length body.now ≡ 736 }
+fn core(body: &[u8; 736]) -> Core
     ensures { result ≡ core_from core_base slot_base (body_word body.now) }
 {
     Core {
@@ -57,9 +54,8 @@ fn core(body: &[u8]) -> Core
     }
 }
 
-fn row(body: &[u8], i: usize) -> Row
-    requires body_len { length body.now ≡ 736 }
-    requires i_bound { i < 16 }
+fn row(body: &[u8; 736], i: usize) -> Row
+    requires { i < 16 }
     ensures { result ≡ row_at (body_word body.now) i }
 {
     let at = 2 * i + 43;
@@ -69,30 +65,23 @@ fn row(body: &[u8], i: usize) -> Row
     }
 }
 
-fn tlb(body: &[u8]) -> [Row; 16]
-    requires { length body.now ≡ 736 }
+fn tlb(body: &[u8; 736]) -> [Row; 16]
     ensures { result ≡ tabulate 16 (row_at (body_word body.now)) }
 {
-    let empty = Row { high: 0, low: 0 };
-    let mut rows = [empty; 16];
-    for i in 0..16 {
-        rows[i] = row(body, i);
-    }
-    rows
+    array::from_fn(|i| row(body, i))
 }
 
-fn cpu(body: &[u8]) -> Cpu
-    requires { length body.now ≡ 736 }
+fn cpu(body: &[u8; 736]) -> Cpu
     ensures { result ≡ cpu_at (body_word body.now) }
 {
-    let regs = registers(body);
-    let core = core(body);
-    let tlb = tlb(body);
-    Cpu { regs, core, tlb }
+    Cpu {
+        regs: registers(body),
+        core: core(body),
+        tlb: tlb(body),
+    }
 }
 
-fn clock(body: &[u8]) -> Clock
-    requires { length body.now ≡ 736 }
+fn clock(body: &[u8; 736]) -> Clock
     ensures { result ≡ clock_from clock_base (body_word body.now) }
 {
     Clock {
@@ -102,8 +91,7 @@ fn clock(body: &[u8]) -> Clock
     }
 }
 
-fn settings(body: &[u8]) -> Settings
-    requires { length body.now ≡ 736 }
+fn settings(body: &[u8; 736]) -> Settings
     ensures { result ≡ settings_from settings_base (body_word body.now) }
 {
     Settings {
@@ -113,9 +101,8 @@ fn settings(body: &[u8]) -> Settings
     }
 }
 
-fn printer(body: &[u8], i: usize) -> Printer
-    requires body_len { length body.now ≡ 736 }
-    requires i_bound { i < 8 }
+fn printer(body: &[u8; 736], i: usize) -> Printer
+    requires { i < 8 }
     ensures { result ≡ printer_at (body_word body.now) i }
 {
     let at = 5 * i + 81;
@@ -128,49 +115,32 @@ fn printer(body: &[u8], i: usize) -> Printer
     }
 }
 
-fn printers(body: &[u8]) -> [Printer; 8]
-    requires { length body.now ≡ 736 }
+fn printers(body: &[u8; 736]) -> [Printer; 8]
     ensures { result ≡ tabulate 8 (printer_at (body_word body.now)) }
 {
-    let absent = Printer {
-        status: 0,
-        command: 0,
-        data0: 0,
-        left: 0,
-        count: 0,
-    };
-    let mut printers = [absent; 8];
-    for i in 0..8 {
-        printers[i] = printer(body, i);
-    }
-    printers
+    array::from_fn(|i| printer(body, i))
 }
 
-fn line(body: &[u8]) -> Line
-    requires { length body.now ≡ 736 }
+fn line(body: &[u8; 736]) -> Line
     ensures { result ≡ line_at (body_word body.now) }
 {
-    let printers = printers(body);
-    let pending = word(body, 121);
-    Line { printers, pending }
-}
-
-fn board(body: &[u8]) -> Board
-    requires { length body.now ≡ 736 }
-    ensures { result ≡ board_at (body_word body.now) }
-{
-    let clock = clock(body);
-    let settings = settings(body);
-    let line = line(body);
-    Board {
-        clock,
-        settings,
-        line,
+    Line {
+        printers: printers(body),
+        pending: word(body, 121),
     }
 }
 
-fn journal(body: &[u8]) -> Journal
-    requires { length body.now ≡ 736 }
+fn board(body: &[u8; 736]) -> Board
+    ensures { result ≡ board_at (body_word body.now) }
+{
+    Board {
+        clock: clock(body),
+        settings: settings(body),
+        line: line(body),
+    }
+}
+
+fn journal(body: &[u8; 736]) -> Journal
     ensures { result ≡ journal_from journal_base (body_word body.now) }
 {
     Journal {
@@ -179,17 +149,13 @@ fn journal(body: &[u8]) -> Journal
     }
 }
 
-fn machine(body: &[u8]) -> Machine
-    requires { length body.now ≡ 736 }
+fn machine(body: &[u8; 736]) -> Machine
     ensures { result ≡ machine_at (body_word body.now) }
 {
-    let cpu = cpu(body);
-    let board = board(body);
-    let journal = journal(body);
     Machine {
-        cpu,
-        board,
-        journal,
+        cpu: cpu(body),
+        board: board(body),
+        journal: journal(body),
     }
 }
 
@@ -198,5 +164,8 @@ pub fn decode(image: &[u8]) -> Machine
     requires { length image.now ≡ 741 }
     ensures { result ≡ machine_of image.now }
 {
-    machine(&image[5..])
+    let Some(body) = image[5..].first_chunk() else {
+        unreachable!()
+    };
+    machine(body)
 }

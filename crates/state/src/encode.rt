@@ -51,12 +51,12 @@ fn last_words(pending: u32, j: Journal, c: Core) -> [u32; 5]
     [pending, j.on_hand, j.next_slot, c.slot, c.branch]
 }
 
+// Stays: one function for rows and printers would give an array whose size is a product, which Rattle has not.
 pub fn row_words(rows: [Row; 16]) -> [u32; 32]
     ensures { result ≡ flat row_words rows }
 {
     let mut words = [0u32; 32];
-    for i in 0..16 {
-        let row = rows[i];
+    for (i, row) in rows.iter().enumerate() {
         words[2 * i] = row.high;
         words[2 * i + 1] = row.low;
     }
@@ -67,8 +67,7 @@ pub fn printer_words(printers: [Printer; 8]) -> [u32; 40]
     ensures { result ≡ flat printer_words printers }
 {
     let mut words = [0u32; 40];
-    for i in 0..8 {
-        let p = printers[i];
+    for (i, p) in printers.iter().enumerate() {
         words[5 * i] = p.status;
         words[5 * i + 1] = p.command;
         words[5 * i + 2] = p.data0;
@@ -106,17 +105,13 @@ pub fn encode(m: Machine, image: &mut [u8])
     requires { length image.old ≡ 741 }
     ensures { image.new ≡ bytes_of m }
 {
-    let cpu = m.cpu;
-    let regs = cpu.regs;
-    let tlb = cpu.tlb;
-    let core = core_words(cpu.core);
-    let rows = row_words(tlb);
-    put_front(regs, core, rows, image);
-    let board = m.board;
-    let line = board.line;
-    let printers = line.printers;
+    let Machine {
+        cpu,
+        board,
+        journal,
+    } = m;
+    put_front(cpu.regs, core_words(cpu.core), row_words(cpu.tlb), image);
     let clock = clock_words(board.clock, board.settings);
-    let printers = printer_words(printers);
-    let last = last_words(line.pending, m.journal, cpu.core);
-    put_back(clock, printers, last, image);
+    let last = last_words(board.line.pending, journal, cpu.core);
+    put_back(clock, printer_words(board.line.printers), last, image);
 }

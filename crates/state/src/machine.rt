@@ -27,6 +27,7 @@ pub struct Core {
     pub next_pc: u32,
     pub cp0: Cp0,
     // Request L2: 1 where the next step is a slot, and then the address of its branch.
+    // Stays: two words, since an image holds any numbers there till its rules are asked (`machine_of`, `slot_keeps`).
     pub slot: u32,
     pub branch: u32,
 }

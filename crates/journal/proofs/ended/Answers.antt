@@ -11,20 +11,9 @@ pub returns-then-slots-eq0 : goal.returns-then-slots-eq0
 returns-then-slots-eq0 c =
     sym (ended_none c.args.mark c.args.journal.now c.args.s c.if-slots-eq0.true)
 
-pub overflow_cast-after : goal.overflow_cast-after
-overflow_cast-after c =
-    omega (arith, c.requires.few, c.requires.sound.place, next_below (slots_of c.args.journal.now) c.args.mark.next_slot (omega (arith, c.requires.sound.place)), c.next_slot-after.ensures)
-
-pub returns-then-hand-slots : goal.returns-then-hand-slots
-returns-then-hand-slots c =
-    let at : ℕ = 512 * c.args.mark.next_slot + 236 in
-    ended_as c.args.mark c.args.journal.now c.args.s _ (omega arith)
-    (stored_both c.args.journal.now at (512 * c.args.mark.next_slot + 252) c.args.s (omega arith) c.saved_words-words.ensures c.put_words.ensures c.put_words-2.ensures)
-    (omega (arith, c.requires.sound.most)) c.next_slot-after.ensures
-
 pub returns : goal.returns
 returns c =
     let at : ℕ = 512 * c.args.mark.next_slot + 236 in
     ended_as c.args.mark c.args.journal.now c.args.s _ (omega arith)
-    (stored_both c.args.journal.now at (512 * c.args.mark.next_slot + 252) c.args.s (omega arith) c.saved_words-words.ensures c.put_words.ensures c.put_words-2.ensures)
-    (omega (arith, c.requires.sound.most)) c.next_slot-after.ensures
+    (stored_both c.args.journal.now at (512 * c.args.mark.next_slot + 252) c.args.s (omega arith) c.saved_words.ensures c.put_words.ensures c.put_words-2.ensures)
+    c.min.ensures c.next_slot.ensures

@@ -1,19 +1,19 @@
--- `rules::tlb_keeps` meets its contract. The invariant: `ok` says whether every row passed keeps the rule.
+-- `rules::tlb_keeps` meets its contract: `all` asks each row.
 use mathlib.Core.Path.{◌≡◌, refl}
+use mathlib.Core.Bool.{Bool, true, false}
 use native.Mathlib.Omega.{arith}
-use native.Mathlib.Numerals.{add-one}
+use Rattle.std.proofs.Common as std
+use Rattle.std.proofs.lemmas.Iterator.{YieldsList-from_slice, cases_from_all}
+use Rattle.device.proofs.All.{every_told}
+use Rattle.tlb.specs.declared.Row.{Row}
+use Rattle.tlb.specs.Entry.{no_row}
+use Rattle.rules.specs.Rules.{entry_keeps, row_keeps}
 use Rattle.rules.proofs.tlb_keeps.Goals as goal
-
-pub loop-i-init : goal.loop-i-init
-loop-i-init c = (omega arith, refl)
-
-pub loop-i-preserved : goal.loop-i-preserved
-loop-i-preserved c =
-    let l = c.loop-i in
-    (omega arith, rw (add-one l.i, l.invariant.1, c.entry_keeps-ok.ensures))
 
 pub returns : goal.returns
 returns c =
-    let l = c.loop-i in
-    let all : l.i ≡ 16 = omega arith in
-    rw all at l.invariant.1
+    let rows = c.args.rows in
+    let t : Row → Bool = λ r. entry_keeps r.high r.low in
+    let told = cases_from_all _ _ c.all.result (λ r. t r ≡ true) (λ r. t r ≡ false) c.all.ensures.ran (YieldsList-from_slice rows (cc))
+    (λ x q k. search std.rules) (λ x q k. search std.rules) in
+    every_told t (row_keeps rows) rows no_row 16 (omega arith) (λ k h. refl) c.all.result told

@@ -1,13 +1,16 @@
 -- `command::commanded` meets its contract.
+use Rattle.std.proofs.Common.{rules}
 use Rattle.disk.specs.Command.{commanded_of}
 use Rattle.disk.proofs.command.commanded.Goals as goal
 
+pub returns-then-status-is_boom : goal.returns-then-status-is_boom
+unfolding commanded_of
+returns-then-status-is_boom c = search rules
+
+pub returns-then-status-is_transfer : goal.returns-then-status-is_transfer
+unfolding commanded_of
+returns-then-status-is_transfer c = search rules
+
 pub returns : goal.returns
 unfolding commanded_of
-returns c = let s = c.status_of-status.ensures in
-    let code = c.code_of-code.ensures in
-    let boom = c.is_boom.ensures in
-    let t = c.pick-ticks.ensures in
-    let transfer = c.is_transfer.ensures in
-    let w = c.pick-words.ensures in
-    rw (t, w, boom, transfer, code, s)
+returns c = search rules

@@ -2,18 +2,8 @@
 use Prim.Native.Nat.{suc, ◌+◌}
 use mathlib.Core.Path.{◌≡◌}
 use native.Mathlib.Omega.{arith}
-use lib.ListN.{length-set}
 use Rattle.disk.specs.Four.{put_four}
 use Rattle.disk.proofs.four.put_four.Goals as goal
-
-pub bounds-m-at-2 : goal.bounds-m-at-2
-bounds-m-at-2 c = simp length-set (omega arith)
-
-pub bounds-m-at-3 : goal.bounds-m-at-3
-bounds-m-at-3 c = simp length-set (omega arith)
-
-pub bounds-m-at-4 : goal.bounds-m-at-4
-bounds-m-at-4 c = simp length-set (omega arith)
 
 pub returns : goal.returns
 unfolding put_four

@@ -2,6 +2,10 @@
 use Rattle.disk.specs.Rules.{disk_keeps}
 use Rattle.disk.proofs.rules.disk_keeps.Goals as goal
 
-pub returns : goal.returns
+pub returns-then-installed : goal.returns-then-installed
 unfolding disk_keeps
-returns c = cc
+returns-then-installed c = rw (c.if-installed.true, c.present_keeps.ensures)
+
+pub returns-else-installed : goal.returns-else-installed
+unfolding disk_keeps
+returns-else-installed c = rw (c.if-installed.false, c.absent_keeps.ensures)

@@ -1,16 +1,15 @@
 -- `saved::keep` meets its contract: what fits lies inside.
-use mathlib.Core.Path.{◌≡◌, sym, ap, ◌∙◌}
+use mathlib.Core.Path.{refl, ◌≡◌, sym, ap, ◌∙◌}
 use mathlib.Core.Bool.{true}
-use native.Mathlib.Omega.{arith}
 use borrow.Author.Tests.{eq-eqb, ne_eqb}
-use lib.ListN.{length}
+use Rattle.std.proofs.Common.{rules}
 use Prim.Native.Nat.{ℕ, ◌+◌}
 use Rattle.disk.specs.declared.Disk.{Disk}
 use Rattle.disk.specs.declared.four.Four.{Four}
 use Rattle.disk.specs.Fields.{offset_of}
-use Rattle.disk.specs.Four.{four_at}
+use Rattle.disk.specs.Four.{no_four, four_at}
 use Rattle.disk.specs.Tick.{ram_place, reads, writes}
-use Rattle.disk.specs.Saved.{work_kept}
+use Rattle.disk.specs.Saved.{no_kept, work_kept}
 use Rattle.disk.proofs.Given.{idle_kept, read_kept, written_kept, still_kept}
 use Rattle.disk.proofs.Places.{Fitting, fitting, reads_fits, writes_fits}
 use Rattle.disk.proofs.saved.keep.Goals as goal
@@ -25,31 +24,13 @@ write_fits ram bytes d on = fitting ram bytes d (writes_fits ram bytes d on)
 pub returns-then-d-ne-BUSY : goal.returns-then-d-ne-BUSY
 returns-then-d-ne-BUSY c =
     let a = c.args in
-    sym (idle_kept a.d a.ram.now a.bytes.now (ne_eqb a.d.status 3 c.if-d-ne-BUSY.true))
-
-pub overflow_sub-place : goal.overflow_sub-place
-overflow_sub-place c = let a = c.args in let f = read_fits (length a.ram.now) (length a.bytes.now) a.d (sym c.reads.ensures ∙ c.if-reads.true) in omega arith
-
-pub overflow_sub-place-then-reads : goal.overflow_sub-place-then-reads
-overflow_sub-place-then-reads c = let a = c.args in let f = read_fits (length a.ram.now) (length a.bytes.now) a.d (sym c.reads.ensures ∙ c.if-reads.true) in omega arith
-
-pub four_at-word-requires : goal.four_at-word-requires
-four_at-word-requires c = let a = c.args in let f = read_fits (length a.ram.now) (length a.bytes.now) a.d (sym c.reads.ensures ∙ c.if-reads.true) in omega arith
+    let h : c.default.result ≡ no_kept = search rules in rw h (sym (idle_kept a.d a.ram.now a.bytes.now (ne_eqb a.d.status 3 c.if-d-ne-BUSY.true)))
 
 pub returns-then-reads : goal.returns-then-reads
 returns-then-reads c =
     let a = c.args in
     let on = sym c.reads.ensures ∙ c.if-reads.true in
     c.work_kept.ensures ∙ ap (λ (f : Four). work_kept 2 (ram_place a.d) f a.d) c.four_at-word.ensures ∙ sym (read_kept a.d a.ram.now a.bytes.now on)
-
-pub overflow_sub-at : goal.overflow_sub-at
-overflow_sub-at c = let a = c.args in let f = write_fits (length a.ram.now) (length a.bytes.now) a.d (sym c.writes.ensures ∙ c.if-writes.true) in omega arith
-
-pub four_at-word-requires-then-writes : goal.four_at-word-requires-then-writes
-four_at-word-requires-then-writes c =
-    let a = c.args in let f = write_fits (length a.ram.now) (length a.bytes.now) a.d (sym c.writes.ensures ∙ c.if-writes.true) in
-    let e = c.block_of.ensures.place_is in
-    omega arith
 
 pub returns-then-writes : goal.returns-then-writes
 returns-then-writes c =
@@ -65,4 +46,5 @@ returns c =
     let busy = eq-eqb a.d.status 3 c.if-d-ne-BUSY.false in
     let unread = sym c.reads.ensures ∙ c.if-reads.false in
     let unwritten = sym c.writes.ensures ∙ c.if-writes.false in
-    c.work_kept-2.ensures ∙ sym (still_kept a.d a.ram.now a.bytes.now busy unread unwritten)
+    let none : c.default-2.result ≡ no_four = search rules in
+    c.work_kept-2.ensures ∙ rw none refl ∙ sym (still_kept a.d a.ram.now a.bytes.now busy unread unwritten)

@@ -6,4 +6,4 @@ use Rattle.disk.proofs.words.four_word.Goals as goal
 
 pub returns : goal.returns
 unfolding four_word from_bytes
-returns c = omega (arith, c.wide-4.ensures, c.wide-3.ensures, c.wide-2.ensures, c.wide.ensures)
+returns c = omega (arith, c.from_le_bytes.ensures)

@@ -4,4 +4,4 @@ use Rattle.disk.proofs.words.kept_from.Goals as goal
 
 pub returns : goal.returns
 unfolding kept_from
-returns c = rw c.four_from-four.ensures
+returns c = rw c.four_from.ensures

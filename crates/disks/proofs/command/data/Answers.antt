@@ -13,4 +13,4 @@ pub returns : goal.returns
 returns c =
     let a = c.args in
     written_held a.words.now a.n c.requires.0 c.requires.1 a.installed a.word c.disk_in-d.ensures
-    (sym c.takes_writes.ensures ∙ c.if-not-takes_writes.false) c.with_data-next.ensures c.put_disk.ensures
+    (sym c.takes_writes.ensures ∙ c.if-not-takes_writes.false) c.with_data.ensures c.put_disk.ensures

@@ -4,4 +4,4 @@ use Rattle.disks.proofs.saved.undo_word.Goals as goal
 
 pub returns : goal.returns
 unfolding undo_word
-returns c = rw c.word_back-was.ensures
+returns c = rw c.word_back.ensures

@@ -1,26 +1,23 @@
--- `tick::is_ending` meets its contract. The invariant: `some` says whether one of the disks passed finishes.
-use mathlib.Core.Path.{◌≡◌, refl}
-use Prim.Native.Nat.{◌<◌}
+-- `tick::is_ending` meets its contract: `any` asks each disk.
+use Prim.Native.Nat.{ℕ, ◌+◌}
+use mathlib.Core.Path.{◌≡◌, refl, sym, ap, ◌∙◌}
+use mathlib.Core.Bool.{Bool, true, false}
 use native.Mathlib.Omega.{arith}
-use native.Mathlib.Numerals.{add-one}
-use Rattle.device.specs.Line.{some_of}
+use Rattle.std.proofs.Common.{rules}
+use Rattle.std.proofs.lemmas.Iterator.{YieldsList-from_range, cases_from_any}
+use Rattle.std.proofs.lemmas.List.FromFn.{get_or-range_with_len}
+use Rattle.std.specs.List.{range_with_len}
+use Rattle.device.proofs.Made.{some_told}
+use Rattle.disk.specs.Tick.{no_disk, finishes}
+use Rattle.disks.specs.Words.{disk_in, disks_in}
 use Rattle.disks.proofs.LineHeld.{disk_at}
 use Rattle.disks.proofs.tick.is_ending.Goals as goal
 
-pub loop-n-init : goal.loop-n-init
-unfolding some_of
-loop-n-init c = (omega arith, refl)
-
-pub loop-n-preserved : goal.loop-n-preserved
-unfolding some_of
-loop-n-preserved c =
-    let l = c.loop-n in
-    let a = c.args in
-    let few : l.n < 8 = omega arith in
-    (omega arith, rw (add-one l.n, l.invariant.1, c.ends-some.ensures, disk_at a.words.now l.n few))
-
 pub returns : goal.returns
 returns c =
-    let l = c.loop-n in
-    let all : l.n ≡ 8 = omega arith in
-    rw all at l.invariant.1
+    let words = c.args.words.now in
+    let t : ℕ → Bool = λ n. finishes (disk_in words n) in
+    let told = cases_from_any _ _ c.any.result (λ n. t n ≡ true) (λ n. t n ≡ false) c.any.ensures.ran (YieldsList-from_range 0 8 8 (cc) refl)
+    (λ x q k. search rules) (λ x q k. search rules) in
+    some_told no_disk finishes (disks_in words) t (range_with_len 0 8) 0 8 refl
+    (λ k h. let z : 0 + k ≡ k = omega arith in ap t (get_or-range_with_len 0 8 k 0 h ∙ z) ∙ ap finishes (sym (disk_at words k h))) c.any.result told

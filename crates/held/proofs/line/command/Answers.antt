@@ -15,5 +15,5 @@ pub returns : goal.returns
 returns c =
     let a = c.args in
     commanded_held a.words.now a.n c.requires.0 c.requires.1 a.installed a.delay a.word a.pending c.printer_in-p.ensures
-    (sym c.takes_writes.ensures ∙ c.if-not-takes_writes.false) c.commanded-next.ensures c.put_printer.ensures
+    (sym c.takes_writes.ensures ∙ c.if-not-takes_writes.false) c.commanded.ensures c.put_printer.ensures
     (c.with_bit.ensures ∙ ap (λ (b : Bool). with_bit a.n b a.pending) c.is_illegal.ensures)

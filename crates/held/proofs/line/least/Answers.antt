@@ -1,7 +1,21 @@
 -- `held::line::least` meets its contract: each way out has the tests that led there.
+use Prim.Native.Nat.{ℕ, ◌<◌, min}
+use mathlib.Core.Path.{◌≡◌, ◌∙◌}
+use mathlib.Core.Bool.{cond}
+use native.Mathlib.Decide.{dec_le}
+use native.Mathlib.Omega.{arith}
+use lib.Dec.{leb}
 use borrow.Author.Tests.{eq-eqb, ne_eqb, le-leb, lt-leb}
 use Rattle.held.specs.Board.{least_of}
 use Rattle.held.proofs.line.least.Goals as goal
+
+-- the lesser of two, by the test
+min_told : (a b : ℕ) → min a b ≡ cond (leb a b) a b
+min_told a b =
+    elim (dec_le a b) [
+      | yes le ↦ rw (le-leb a b le) (omega arith)
+      | no more ↦ let lt : b < a = omega arith in rw (lt-leb a b lt) (omega arith)
+    ]
 
 pub returns-then-words-n-ne-BUSY : goal.returns-then-words-n-ne-BUSY
 unfolding least_of
@@ -15,10 +29,6 @@ pub returns-then-soon-eq0 : goal.returns-then-soon-eq0
 unfolding least_of
 returns-then-soon-eq0 c = rw (eq-eqb _ _ c.if-words-n-ne-BUSY.false, lt-leb _ _ c.if-left-le1.false, eq-eqb _ _ c.if-soon-eq0.true)
 
-pub returns-then-left-soon : goal.returns-then-left-soon
-unfolding least_of
-returns-then-left-soon c = rw (eq-eqb _ _ c.if-words-n-ne-BUSY.false, lt-leb _ _ c.if-left-le1.false, ne_eqb _ _ c.if-soon-eq0.false, le-leb _ _ c.if-left-soon.true)
-
 pub returns : goal.returns
 unfolding least_of
-returns c = rw (eq-eqb _ _ c.if-words-n-ne-BUSY.false, lt-leb _ _ c.if-left-le1.false, ne_eqb _ _ c.if-soon-eq0.false, lt-leb _ _ c.if-left-soon.false)
+returns c = rw (eq-eqb _ _ c.if-words-n-ne-BUSY.false, lt-leb _ _ c.if-left-le1.false, ne_eqb _ _ c.if-soon-eq0.false) (c.min.ensures ∙ min_told _ _)

@@ -10,4 +10,4 @@ returns-then-words-n-gt1 c =
 pub returns : goal.returns
 returns c =
     let a = c.args in
-    looked_at a.words.now a.n a.paper.now c.printer_in-p.ensures c.prints.ensures c.saved_byte.ensures
+    looked_at a.words.now a.n a.paper.now c.printer_in.ensures c.saved_byte.ensures

@@ -7,10 +7,10 @@ pub returns-then-word : goal.returns-then-word
 unfolding commanded_of
 returns-then-word c = rw c.if-word.true
 
-pub returns-then-word-eq1 : goal.returns-then-word-eq1
+pub returns-then-word-eq-ACK : goal.returns-then-word-eq-ACK
 unfolding commanded_of
-returns-then-word-eq1 c = rw (c.if-word.false, eq-eqb _ 1 c.if-word-eq1.true)
+returns-then-word-eq-ACK c = rw (c.if-word.false, eq-eqb _ 1 c.if-word-eq-ACK.true)
 
-pub returns-else-word-eq1 : goal.returns-else-word-eq1
+pub returns-else-word-eq-ACK : goal.returns-else-word-eq-ACK
 unfolding commanded_of
-returns-else-word-eq1 c = rw (c.if-word.false, ne_eqb _ 1 c.if-word-eq1.false)
+returns-else-word-eq-ACK c = rw (c.if-word.false, ne_eqb _ 1 c.if-word-eq-ACK.false)

@@ -1,20 +1,23 @@
--- `rules::line_keeps` meets its contract. The invariant: `ok` says whether every printer passed keeps the rules.
+-- `rules::line_keeps` meets its contract: `all` asks each printer, with its place.
+use Prim.Native.Nat.{ℕ}
 use mathlib.Core.Path.{◌≡◌, refl}
+use mathlib.Core.Bool.{Bool, true, false}
 use native.Mathlib.Omega.{arith}
-use native.Mathlib.Numerals.{add-one}
-use Rattle.printer.specs.Rules.{line_keeps}
+use Rattle.std.proofs.Common.{rules}
+use Rattle.std.proofs.lemmas.Iterator.{YieldsList-from_slice, cases_from_all}
+use Rattle.std.proofs.lemmas.Iterator.Consumers.{YieldsList-from_enumerate}
+use Rattle.word.specs.Map.{bit}
+use Rattle.device.proofs.All.{every_numbered}
+use Rattle.printer.specs.declared.Printer.{Printer}
+use Rattle.printer.specs.Tick.{no_printer}
+use Rattle.printer.specs.Rules.{printer_keeps, printer_keeps_at, line_keeps}
 use Rattle.printer.proofs.rules.line_keeps.Goals as goal
-
-pub loop-n-init : goal.loop-n-init
-loop-n-init c = (omega arith, refl)
-
-pub loop-n-preserved : goal.loop-n-preserved
-loop-n-preserved c = let l = c.loop-n in
-    (omega arith, rw (add-one l.n, l.invariant.1, c.printer_keeps-ok.ensures, c.has_bit-in-loop-n.ensures, c.has_bit.ensures))
 
 pub returns : goal.returns
 unfolding line_keeps
-returns c = let l = c.loop-n in
-    let all : l.n ≡ 8 = omega arith in
-    let holds = rw all at l.invariant.1 in
-    rw holds
+returns c =
+    let a = c.args in
+    let t : ℕ × Printer → Bool = λ x. printer_keeps (bit x.0 a.installed) (bit x.0 a.line.pending) a.delay a.room x.1 in
+    let told = cases_from_all _ _ c.all-each.result (λ x. t x ≡ true) (λ x. t x ≡ false) c.all-each.ensures.ran
+    (YieldsList-from_enumerate (YieldsList-from_slice a.line.printers (cc)) (cc)) (λ x q k. search rules) (λ x q k. search rules) in
+    rw (every_numbered t (printer_keeps_at a.installed a.delay a.room a.line) a.line.printers no_printer 8 (omega arith) (λ k l. refl) c.all-each.result told)

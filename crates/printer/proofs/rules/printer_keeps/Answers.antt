@@ -2,6 +2,10 @@
 use Rattle.printer.specs.Rules.{printer_keeps}
 use Rattle.printer.proofs.rules.printer_keeps.Goals as goal
 
-pub returns : goal.returns
+pub returns-then-installed : goal.returns-then-installed
 unfolding printer_keeps
-returns c = cc
+returns-then-installed c = rw (c.if-installed.true, c.present_keeps.ensures)
+
+pub returns-else-installed : goal.returns-else-installed
+unfolding printer_keeps
+returns-else-installed c = rw (c.if-installed.false, c.absent_keeps.ensures)

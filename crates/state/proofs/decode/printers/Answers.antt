@@ -1,21 +1,9 @@
--- `state::decode::printers` meets its contract. The invariant: the printers passed are read, and the rest is as it was.
-use mathlib.Core.Path.{refl}
-use native.Mathlib.Omega.{arith}
-use Rattle.word.proofs.Lists.{fill_step, fill_end}
+-- `state::decode::printers` meets its contract: each place of the array is read.
+use Rattle.std.proofs.Common.{rules}
+use Rattle.device.proofs.Made.{made_by}
+use Rattle.printer.specs.Tick.{no_printer}
 use Rattle.state.specs.Layout.{body_word, printer_at}
 use Rattle.state.proofs.decode.printers.Goals as goal
 
-pub loop-i-init : goal.loop-i-init
-loop-i-init c = (omega arith, refl)
-
-pub loop-i-preserved : goal.loop-i-preserved
-loop-i-preserved c =
-    let l = c.loop-i in
-    let body = c.args.body.now in
-    (omega arith, rw c.printer.ensures (fill_step (printer_at (body_word body)) _ l.printers l.i (omega arith) l.invariant.1))
-
 pub returns : goal.returns
-returns c =
-    let l = c.loop-i in
-    let body = c.args.body.now in
-    fill_end (printer_at (body_word body)) _ l.printers l.i (omega arith) l.invariant.1
+returns c = made_by _ _ (printer_at (body_word c.args.body.now)) (λ i y q k. search rules) c.from_fn.result 8 no_printer c.from_fn.ensures.items

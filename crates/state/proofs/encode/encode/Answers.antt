@@ -9,10 +9,10 @@ returns c =
     let m = c.args.m in
     let sized : Sized m = record { regs = omega arith; tlb = omega arith; printers = omega arith } in
     stored m sized c.args.image.now c.requires
-    c.core_words-core.ensures
-    c.row_words-rows.ensures
+    c.core_words.ensures
+    c.row_words.ensures
     c.clock_words-clock.ensures
-    c.printer_words-printers.ensures
+    c.printer_words.ensures
     c.last_words-last.ensures
     c.put_front.ensures
     c.put_back.ensures

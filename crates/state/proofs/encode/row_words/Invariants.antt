@@ -1,6 +1,6 @@
 -- `state::encode::row_words` meets its contract. The invariant: the words of the rows passed are stored, and nothing else.
 use mathlib.Core.Path.{◌≡◌}
-use Prim.Native.Nat.{◌-◌, ◌≤◌}
+use Prim.Native.Nat.{◌≤◌}
 use lib.ListN.{length, take}
 use lib.Seq.{sets}
 use Rattle.word.specs.Lists.{flat}
@@ -9,7 +9,4 @@ use Rattle.state.proofs.encode.row_words.Given as goal
 
 abbrev pub invariant-loop-i : goal.invariant-loop-i
 invariant-loop-i l =
-    (l.i ≤ 16) × (length l.words ≡ 32) × (l.words ≡ sets l.initial.words 0 (flat row_words (take l.i l.rows)))
-
-abbrev pub decreases-loop-i : goal.decreases-loop-i
-decreases-loop-i l = 16 - l.i
+    (l.i ≤ 16) × (length l.words ≡ 32) × (l.words ≡ sets l.initial.words 0 (flat row_words (take l.i l.row-items)))
