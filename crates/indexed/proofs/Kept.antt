@@ -15,8 +15,7 @@ use Rattle.ring.specs.Machine.{Besides}
 use Rattle.ring.specs.Calls.{Call, called_all, start, RunsBack}
 use Rattle.ring.proofs.OnRing.{records_length, oldest_record}
 use Rattle.ring.proofs.History.{runs_back}
-use Rattle.frames.specs.declared.Entry.{Entry}
-use Rattle.frames.specs.declared.Entry.TheVariants.{Nothing}
+use Rattle.std.proofs.Common.{Option, Some, None}
 use Rattle.frames.specs.OnHand.{Touch}
 use Rattle.frames.specs.Afresh.{index_of}
 use Rattle.frames.specs.Keep.{Kept, distance, restored, Ledger, pushed, popped}
@@ -66,11 +65,11 @@ module _ (b : Base) where
 
   -- ---- no update asks whether a place changed
 
-  module _ (clock : ℕ) (e : Kept → Entry) (same : (s : a.State) (w : Noted) → e (seen s w) ≡ e (bare_of w)) where
+  module _ (clock : ℕ) (e : Kept → Option ℕ) (same : (s : a.State) (w : Noted) → e (seen s w) ≡ e (bare_of w)) where
     bare_same : (s : a.State) (ws : List Noted) (x : List ℕ) → replace_all_in clock e (map (seen s) ws) x ≡ replace_all_in clock e (map bare_of ws) x
     bare_same s [] x = refl
     bare_same s (w ∷ ws) x =
-        ap (λ (y : Entry). replace_all_in clock e (map (seen s) ws) (replace_in clock (frame_of w.place) y x)) (same s w)
+        ap (λ (y : Option ℕ). replace_all_in clock e (map (seen s) ws) (replace_in clock (frame_of w.place) y x)) (same s w)
         ∙ bare_same s ws (replace_in clock (frame_of w.place) (e (bare_of w)) x)
 
     bare_at : (s : a.State) (rs : List (List ℕ)) (i : ℕ) (x : List ℕ) → i < length rs →
@@ -174,18 +173,18 @@ module _ (b : Base) where
           let all : g.hand ≡ suc m = omega (arith, sound.most) in
           ap (λ (k : ℕ). cond (ltb m k) old x) long
           ∙ ap (λ (t : Bool). cond t old x) (lt-ltb m g.hand full)
-          ∙ bare_at c (λ k. Nothing) (λ s w. refl) s rs m x (omega (arith, records_length a.size (suc m) g))
-          ∙ ap (λ (r : List ℕ). replace_all_in c (λ k. Nothing) (bare a r) x) (oldest_record a.size m g sound all)
+          ∙ bare_at c (λ k. None) (λ s w. refl) s rs m x (omega (arith, records_length a.size (suc m) g))
+          ∙ ap (λ (r : List ℕ). replace_all_in c (λ k. None) (bare a r) x) (oldest_record a.size m g sound all)
           ∙ sym (ap (λ (t : Bool). cond t new x) (lt-ltb m g.hand full)))
         where
           c : ℕ
           c = slot_back whole (a.clock s) m
 
           old : List ℕ
-          old = replace_all_in (slot_back whole (a.clock s) m) (λ k. Nothing) (get_or (kepts_in s rs) m []) x
+          old = replace_all_in (slot_back whole (a.clock s) m) (λ k. None) (get_or (kepts_in s rs) m []) x
 
           new : List ℕ
-          new = replace_all_in (slot_back whole (a.clock s) m) (λ k. Nothing) (bare a (slot a.size g.bytes g.next)) x
+          new = replace_all_in (slot_back whole (a.clock s) m) (λ k. None) (bare a (slot a.size g.bytes g.next)) x
 
       below : below_of m g ≡ length (take m (kepts_in s rs))
       below =
@@ -282,7 +281,7 @@ module _ (b : Base) where
         most = omega arith;
         right = tt;
         within = tt;
-        bytes = zeros frames frames ∙ ap (flat entry_bytes) (tabulate_ext frames (λ f. Nothing) (index_of whole (a.clock s) []) (λ f low. refl));
+        bytes = zeros frames frames ∙ ap (flat entry_bytes) (tabulate_ext frames (λ f. None) (index_of whole (a.clock s) []) (λ f low. refl));
       }
 
 -- THE THEOREM: after any calls from a reset the index is the one worked out afresh from the state and the records on hand, and running back holds

@@ -7,15 +7,14 @@ use lib.ListN.{length}
 use lib.Seq.{length-sets}
 use lib.Dec.{ltb}
 use Rattle.ring.specs.Slots.{Ring}
-use Rattle.frames.specs.declared.Entry.{Entry}
-use Rattle.frames.specs.declared.Entry.TheVariants.{At}
+use Rattle.std.proofs.Common.{Option, Some, None}
 use Rattle.frames.specs.OnHand.{Touch}
 use Rattle.frames.specs.Keep.{Kept, is_at}
 use Rattle.frames.specs.Bytes.{entry_bytes, entry_at, put_entry, replace_in, mark_in, replace_all_in, mark_all_in}
 use Rattle.indexed.specs.Ahead.{Ahead, bare, touches, dropped_of, onward_of}
 use Rattle.indexed.specs.Base.{Base, backward_of}
 
-put_long : (x : List ℕ) (f : ℕ) (e : Entry) → length (put_entry x f e) ≡ length x
+put_long : (x : List ℕ) (f : ℕ) (e : Option ℕ) → length (put_entry x f e) ≡ length x
 put_long x f e = length-sets x (16 * f) (entry_bytes e)
 
 -- changed or left
@@ -23,7 +22,7 @@ cond_long : (t : Bool) (y x : List ℕ) → length y ≡ length x → length (co
 cond_long true y x e = e
 cond_long false y x e = refl
 
-pub replace_all_long : (clock : ℕ) (e : Kept → Entry) (ks : List Kept) (x : List ℕ) → length (replace_all_in clock e ks x) ≡ length x
+pub replace_all_long : (clock : ℕ) (e : Kept → Option ℕ) (ks : List Kept) (x : List ℕ) → length (replace_all_in clock e ks x) ≡ length x
 replace_all_long clock e [] x = refl
 replace_all_long clock e (k ∷ ks) x =
     let f = k.touch.frame in
@@ -33,7 +32,7 @@ pub mark_all_long : (clock : ℕ) (ts : List Touch) (x : List ℕ) → length (m
 mark_all_long clock [] x = refl
 mark_all_long clock (t ∷ ts) x =
     let f = t.frame in
-    mark_all_long clock ts (mark_in clock f t.changed x) ∙ cond_long t.changed (put_entry x f (At clock)) x (put_long x f (At clock))
+    mark_all_long clock ts (mark_in clock f t.changed x) ∙ cond_long t.changed (put_entry x f (Some clock)) x (put_long x f (Some clock))
 
 module _ (a : Ahead) (g : Ring) (s : a.State) (x : List ℕ) where
   dropped_long : (m : ℕ) → length (dropped_of a m g s x) ≡ length x

@@ -3,7 +3,7 @@
 use Rattle.std.specs.Prelude.{ℕ, zero, suc, ◌/◌, Bool, false, not, cond, List, [], map, eqb, ltb}
 use Rattle.ring.specs.Slots.{Ring, next_slot, slot_back, slot}
 use Rattle.ring.specs.Machine.{Forward}
-use Rattle.frames.specs.declared.Entry.TheVariants.{Nothing}
+use Rattle.std.specs.Prelude.{Option, Some, None}
 use Rattle.frames.specs.OnHand.{Touch}
 use Rattle.frames.specs.Keep.{Kept, up_to, distance}
 use Rattle.frames.specs.Bytes.{whole, entry_at, replace_all_in, mark_all_in}
@@ -62,7 +62,7 @@ module _ (a : Ahead) where
   -- the index once the oldest record, if all m + 1 slots are on hand, has dropped off: it is the one in the next slot
   abbrev pub dropped_of : ℕ → Ring → a.State → List ℕ → List ℕ
   dropped_of m g s x =
-      cond (ltb m g.hand) (replace_all_in (slot_back whole (a.clock s) m) (λ k. Nothing) (bare (slot a.size g.bytes g.next)) x) x
+      cond (ltb m g.hand) (replace_all_in (slot_back whole (a.clock s) m) (λ k. None) (bare (slot a.size g.bytes g.next)) x) x
 
   -- the distances that the record of the step from s keeps, and the index after that step; with no slots nothing is kept
   abbrev pub tag_of : ℕ → Ring → a.State → List ℕ → List ℕ

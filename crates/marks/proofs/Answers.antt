@@ -6,7 +6,7 @@ use Rattle.ring.specs.Slots.{Ring, slot, slot_back}
 use Rattle.record.specs.Layout.{record_of}
 use Rattle.record.specs.declared.Saved.{Saved}
 use Rattle.decide.specs.declared.effect.Effect.TheVariants.{Ram}
-use Rattle.frames.specs.declared.Entry.TheVariants.{Nothing}
+use Rattle.std.proofs.Common.{None}
 use Rattle.frames.specs.Bytes.{whole, replace_all_in, mark_in, Stepped, note_in}
 use Rattle.marks.specs.Steps.{bare_in, forgotten_of, below_in, kept_of, marked_of}
 
@@ -21,7 +21,7 @@ module _ (g : Ring) (time : ℕ) (x : List ℕ) where
 
   -- the index with that record forgotten, of n slots
   abbrev without : ℕ → List ℕ
-  without n = replace_all_in (slot_back whole time n) (λ k. Nothing) (bare_in oldest) x
+  without n = replace_all_in (slot_back whole time n) (λ k. None) (bare_in oldest) x
 
   -- while a slot is free none drops off
   pub forgets_room : (n : ℕ) → g.hand < n → x ≡ forgotten_of n g time x
@@ -29,12 +29,12 @@ module _ (g : Ring) (time : ℕ) (x : List ℕ) where
   forgets_room (suc m) room = sym (ap (λ (b : Bool). cond b (without (suc m)) x) (le-ltb m g.hand (omega arith)))
 
   pub forgets_full : (n gone : ℕ) (s : Saved) (after : List ℕ) → n ≤ g.hand → 0 < n → gone ≡ slot_back whole time n → s ≡ oldest →
-      after ≡ replace_all_in gone (λ k. Nothing) (bare_in s) x → after ≡ forgotten_of n g time x
+      after ≡ replace_all_in gone (λ k. None) (bare_in s) x → after ≡ forgotten_of n g time x
   forgets_full zero gone s after full some e is left = absurd (omega arith)
   forgets_full (suc m) gone s after full some e is left =
       left
-      ∙ ap (λ (c : ℕ). replace_all_in c (λ k. Nothing) (bare_in s) x) e
-      ∙ ap (λ (o : Saved). replace_all_in (slot_back whole time (suc m)) (λ k. Nothing) (bare_in o) x) is
+      ∙ ap (λ (c : ℕ). replace_all_in c (λ k. None) (bare_in s) x) e
+      ∙ ap (λ (o : Saved). replace_all_in (slot_back whole time (suc m)) (λ k. None) (bare_in o) x) is
       ∙ sym (ap (λ (b : Bool). cond b (without (suc m)) x) (lt-ltb m g.hand (omega arith)))
 
 -- ---- how many are below

@@ -7,7 +7,7 @@ use Rattle.decide.specs.declared.effect.Effect.{Effect}
 use Rattle.record.specs.declared.Saved.{Saved}
 use Rattle.record.specs.Layout.{record_of}
 use Rattle.step.specs.Parts.{ram_after}
-use Rattle.frames.specs.declared.Entry.TheVariants.{Nothing}
+use Rattle.std.specs.Prelude.{None}
 use Rattle.frames.specs.OnHand.{Touch}
 use Rattle.frames.specs.Keep.{Kept, restored}
 use Rattle.frames.specs.Bytes.{whole, replace_all_in, mark_all_in}
@@ -28,7 +28,7 @@ bare_in s = map bare_of (noted_in s)
 abbrev pub forgotten_of : ℕ → Ring → ℕ → List ℕ → List ℕ
 forgotten_of zero g time x = x
 forgotten_of (suc m) g time x =
-    cond (nat_lt m g.hand) (replace_all_in (slot_back whole time (suc m)) (λ k. Nothing) (bare_in (record_of (slot record_size g.bytes g.next)).saved) x) x
+    cond (nat_lt m g.hand) (replace_all_in (slot_back whole time (suc m)) (λ k. None) (bare_in (record_of (slot record_size g.bytes g.next)).saved) x) x
 
 -- how many are on hand below the record of the next step, of n slots
 abbrev pub below_in : ℕ → ℕ → ℕ

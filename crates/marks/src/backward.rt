@@ -10,14 +10,9 @@ pub fn give_back(index: &mut [u8], time: u64, hand: u64, s: Saved)
     requires { length index.old % 16 ≡ 0 }
     ensures { index.new ≡ given_back_of time hand s index.old }
 {
-    match s {
-        Saved::RamWord(place, _, distance) => {
-            let at = place as usize;
-            let entry = restored(time, hand, distance as u64);
-            replace_any(index, time, at / 4096, entry)
-        }
-        Saved::Nothing => {}
-        Saved::Register(_, _) => {}
-        Saved::TlbRow(_, _) => {}
+    if let Saved::RamWord(place, _, distance) = s {
+        let at = place as usize;
+        let entry = restored(time, hand, distance as u64);
+        replace_any(index, time, at / 4096, entry);
     }
 }

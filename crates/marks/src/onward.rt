@@ -1,5 +1,5 @@
 // A step, once it is decided: the oldest record drops off, then the word written is marked.
-ghost use Rattle.std.specs.Prelude.{◌≡◌, ◌+◌, ◌*◌, ◌/◌, ◌%◌, ◌<◌, ◌≤◌, length};
+ghost use Rattle.std.specs.Prelude.{◌≡◌, ◌+◌, ◌*◌, ◌/◌, ◌%◌, ◌<◌, ◌≤◌, length, None};
 ghost use Rattle.clock.specs.Tick.{time_of};
 ghost use Rattle.decide.specs.Range.{Within};
 ghost use Rattle.frames.specs.Bytes.{replace_all_in};
@@ -8,7 +8,7 @@ ghost use Rattle.marks.specs.Steps.{FitsRam, bare_in, forgotten_of, below_in, ke
 
 use clock::{Clock, time};
 use decide::effect::Effect;
-use frames::{Entry, note, replace_any};
+use frames::{note, replace_any};
 use journal::SLOT;
 use memory::load_word;
 use record::Saved;
@@ -18,16 +18,11 @@ use state::machine::Journal;
 // The record is any bytes that the host lent, and nobody has judged it: its place may lie past RAM, where no entry is.
 fn forget_saved(index: &mut [u8], gone: u64, s: Saved)
     requires { length index.old % 16 ≡ 0 }
-    ensures { index.new ≡ replace_all_in gone (λ k. Entry.Nothing) (bare_in s) index.old }
+    ensures { index.new ≡ replace_all_in gone (λ k. None) (bare_in s) index.old }
 {
-    match s {
-        Saved::RamWord(place, _, _) => {
-            let at = place as usize;
-            replace_any(index, gone, at / 4096, Entry::Nothing)
-        }
-        Saved::Nothing => {}
-        Saved::Register(_, _) => {}
-        Saved::TlbRow(_, _) => {}
+    if let Saved::RamWord(place, _, _) = s {
+        let at = place as usize;
+        replace_any(index, gone, at / 4096, None);
     }
 }
 
@@ -81,14 +76,6 @@ pub fn mark(index: &mut [u8], time: u64, below: u64, ram: &[u8], effect: Effect)
 {
     match effect {
         Effect::Ram(at, word) => mark_word(index, time, below, ram, at, word),
-        Effect::Nothing => 0,
-        Effect::Register(_, _) => 0,
-        Effect::HiLo(_, _) => 0,
-        Effect::Control(_, _) => 0,
-        Effect::Entry(_) => 0,
-        Effect::TlbRow(_, _, _) => 0,
-        Effect::DeviceLoad(_, _) => 0,
-        Effect::DeviceStore(_, _) => 0,
-        Effect::Raise(_) => 0,
+        _ => 0,
     }
 }

@@ -12,7 +12,7 @@ use decide::step::decide;
 use held::core_words::{core_in, core_words};
 use held::{Held, packed, unpacked};
 use look::{Stop, looked, next_look};
-use pages::follow;
+use pages::{Pages, follow};
 use printer::Line;
 use state::machine::{Board, Cpu, Machine, Settings};
 use step::saved::old_row;
@@ -112,7 +112,10 @@ fn spin(
     let mut rows = parts.rows;
     let mut words = parts.words;
     let mut mark = parts.mark;
-    let mut pages = [0u32; 5];
+    let mut pages = Pages {
+        fetches: None,
+        accesses: None,
+    };
     let mut steps: u32 = 0;
     let mut limit = next_look(rows, steps, budget);
     let why = loop {
@@ -154,7 +157,10 @@ fn spin(
             Effect::TlbRow(i, high, low) => {
                 let written = tlb::write(rows, i as usize, Row { high, low });
                 rows = written;
-                pages = [0u32; 5];
+                pages = Pages {
+                    fetches: None,
+                    accesses: None,
+                };
                 limit = next_look(rows, steps, budget);
             }
             Effect::Nothing => {}

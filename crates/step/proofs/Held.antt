@@ -8,7 +8,8 @@ use Rattle.word.specs.Map.{bit}
 use Rattle.printer.specs.Tick.{printing, is_busy}
 use Rattle.printer.specs.declared.Line.{Line}
 use Rattle.printer.proofs.Ticks.{idle_tick}
-use Rattle.bus.specs.declared.store.Store.TheVariants.{Nothing, Timer, Command, Data}
+use Rattle.bus.specs.declared.store.Store.TheVariants.{Timer, Command, Data}
+use Rattle.std.proofs.Common.{Option, Some, None}
 use Rattle.board.specs.declared.places.Sizes.{Sizes}
 use Rattle.state.specs.Layout.{kept_words}
 use Rattle.state.specs.Slot.{slot_after}
@@ -73,28 +74,28 @@ module _ (settings : Settings) (h : Held) (words : List ℕ) where
   abbrev with_line : Line → Board
   with_line line = record { clock = h.clock; settings = settings; line = line }
 
-  pub stores_nothing : Told h words → StoredIs settings Nothing h words h words
+  pub stores_nothing : Told h words → StoredIs settings None h words h words
   stores_nothing told = record { board_is = refl; told = told }
 
   pub stores_timer : (timer : ℕ) {r : Held} → Told h words →
       r ≡ record { clock = record { high = h.clock.high; low = h.clock.low; timer = timer }; pending = h.pending; soon = h.soon } →
-      StoredIs settings (Timer timer) h words r words
+      StoredIs settings (Some (Timer timer)) h words r words
   stores_timer timer told is = rw is (record { board_is = refl; told = record { waits = told.waits; forty = told.forty } })
 
   module _ (n word : ℕ) (few : n < 8) (told : Told h words) where
     pub stores_command : {map : ℕ} {words' : List ℕ} → CommandIs settings.installed settings.delay n word words h.pending map words' →
-        StoredIs settings (Command n word) h words (record { clock = h.clock; pending = map; soon = 1 }) words'
+        StoredIs settings (Some (Command n word)) h words (record { clock = h.clock; pending = map; soon = 1 }) words'
     stores_command {words' = words'} done = record { board_is = ap with_line done.line_is; told = record { waits = any_waits words'; forty = done.forty } }
 
     -- a printer at work takes no command
-    pub stores_refused : is_busy (printer_in words n) ≡ true → StoredIs settings (Command n word) h words h words
+    pub stores_refused : is_busy (printer_in words n) ≡ true → StoredIs settings (Some (Command n word)) h words h words
     stores_refused busy =
         let off : takes_in settings.installed n (printer_in words n) ≡ false = rw busy (and-false (bit n settings.installed)) in
         let done = not_commanded words n few told.forty settings.installed settings.delay word h.pending refl off in
         record { board_is = ap with_line done.line_is; told = told }
 
     pub stores_data : {words' : List ℕ} → DataIs settings.installed n word words words' →
-        StoredIs settings (Data n word) h words (record { clock = h.clock; pending = h.pending; soon = h.soon }) words'
+        StoredIs settings (Some (Data n word)) h words (record { clock = h.clock; pending = h.pending; soon = h.soon }) words'
     stores_data {words'} done =
         record {
           board_is = ap with_line (done.line_is h.pending);

@@ -5,6 +5,7 @@ use Rattle.clock.specs.Tick.{time_of}
 use Rattle.clock.specs.declared.Clock.{Clock}
 use Rattle.bus.specs.declared.store.Store.{Store}
 use Rattle.bus.specs.declared.store.Store.TheVariants as store
+use Rattle.std.proofs.Common.{Option, Some, None}
 use Rattle.bus.specs.Stored.{clock_stored}
 use Rattle.bus.specs.Store.{bus_write_of}
 use Rattle.decide.specs.Lent.{sizes_of}
@@ -24,11 +25,11 @@ step_ram roms w = ap (λ (v : World). v.ram) (by_parts (sizes_of (lent_in roms (
 
 -- ---- the clock: an effect may set the timer, and nothing else of the clock group
 
-stored_time : (s : Store) (c : Clock) → time_of (clock_stored s c) ≡ time_of c
-stored_time store.Nothing c = refl
-stored_time (store.Timer word) c = refl
-stored_time (store.Command n word) c = refl
-stored_time (store.Data n word) c = refl
+stored_time : (s : Option Store) (c : Clock) → time_of (clock_stored s c) ≡ time_of c
+stored_time None c = refl
+stored_time (Some (store.Timer word)) c = refl
+stored_time (Some (store.Command n word)) c = refl
+stored_time (Some (store.Data n word)) c = refl
 
 after_time : (e : Effect) (b : Board) → time_of (board_after e b).clock ≡ time_of b.clock
 after_time Nothing b = refl

@@ -6,6 +6,7 @@ use Rattle.bus.specs.Stored.{line_stored, clock_stored, cause_stored}
 use Rattle.bus.specs.Words.{bus_word_of}
 use Rattle.bus.specs.declared.read.Bus.{Bus}
 use Rattle.bus.specs.declared.store.Store.{Store}
+use Rattle.std.specs.Prelude.{Option}
 use Rattle.cp0.specs.Entry.{entered_of}
 use Rattle.cp0.specs.Registers.{with_register, with_entry}
 use Rattle.cp0.specs.declared.registers.Cp0.{Cp0}
@@ -69,7 +70,7 @@ abbrev pub device_word : Sizes → Board → ℕ → ℕ
 device_word sizes b offset = bus_word_of (bus_of sizes b) b.line.printers offset
 
 -- what SW does there: to the timer and the printers, and by them to the interrupt lines
-abbrev pub board_stored : Store → Board → Board
+abbrev pub board_stored : Option Store → Board → Board
 board_stored s b =
     record {
       clock = clock_stored s b.clock;
@@ -78,10 +79,10 @@ board_stored s b =
     }
 
 -- in the processor that the lines go to, whichever one stores; `pending` is the map after the store
-abbrev pub lines_stored : Store → ℕ → Cp0 → Cp0
+abbrev pub lines_stored : Option Store → ℕ → Cp0 → Cp0
 lines_stored s pending c = with_register Cause (cause_stored s pending c.cause) c
 
-abbrev pub device_stored : Store → World → World
+abbrev pub device_stored : Option Store → World → World
 device_stored s w =
     let b = board_stored s w.board in
     record { cpu = in_cp0 (lines_stored s b.line.pending) w.cpu; board = b; ram = w.ram; paper = w.paper }

@@ -2,6 +2,7 @@
 use Rattle.std.specs.Prelude.{◌≡◌, ℕ, List, [], length}
 use Rattle.board.specs.declared.places.Sizes.{Sizes}
 use Rattle.bus.specs.declared.store.Store.{Store}
+use Rattle.std.specs.Prelude.{Option}
 use Rattle.printer.specs.Tick.{printing, ticked_of}
 use Rattle.state.specs.declared.machine.Settings.{Settings}
 use Rattle.decide.specs.declared.effect.Effect.{Effect}
@@ -29,7 +30,7 @@ pub record TickIs (settings : Settings) (core : List ℕ) (held : Held) (words p
   pub told : Told r words'
 
 -- a store in the device area
-pub record StoredIs (settings : Settings) (s : Store) (held : Held) (words : List ℕ) (r : Held) (words' : List ℕ) : Type 0 where
+pub record StoredIs (settings : Settings) (s : Option Store) (held : Held) (words : List ℕ) (r : Held) (words' : List ℕ) : Type 0 where
   pub board_is : board_of r settings words' ≡ board_stored s (board_of held settings words)
   pub told : Told r words'
 

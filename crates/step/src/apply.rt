@@ -1,6 +1,6 @@
 // The effect of a decision on registers, RAM and the printers' words, in place, and on the rest by value. A row of the table is the caller's to change: it holds the
-// table as a local and touches it only where the effect says so. Every variant has its own arm, so that each tells the proof which it is.
-ghost use Rattle.std.specs.Prelude.{◌≡◌, ◌+◌, ◌<◌, ◌≤◌, length};
+// table as a local and touches it only where the effect says so.
+ghost use Rattle.std.specs.Prelude.{◌≡◌, ◌+◌, ◌<◌, ◌≤◌, length, Some};
 ghost use Rattle.bus.specs.Stored.{InLine};
 ghost use Rattle.bus.specs.Words.{bus_word_of};
 ghost use Rattle.cp0.specs.Entry.{entered_of};
@@ -54,43 +54,20 @@ pub fn write_back(effect: Effect, bus: Bus, words: &[u32; 40], regs: &mut [u32; 
             regs[at] = device_word(bus, words, offset);
         }
         Effect::Ram(at, word) => memory::store_word(ram, at as usize, word),
-        Effect::Nothing => {}
-        Effect::HiLo(_, _) => {}
-        Effect::Control(_, _) => {}
-        Effect::Entry(_) => {}
-        Effect::TlbRow(_, _, _) => {}
-        Effect::DeviceStore(_, _) => {}
-        Effect::Raise(_) => {}
+        _ => {}
     }
 }
 
 fn with_cp0(c: Core, cp0: Cp0) -> Core
     ensures { result ≡ with_cp0 cp0 c }
 {
-    Core {
-        hi: c.hi,
-        lo: c.lo,
-        pc: c.pc,
-        next_pc: c.next_pc,
-        cp0,
-        slot: c.slot,
-        branch: c.branch,
-    }
+    Core { cp0, ..c }
 }
 
 fn with_hi_lo(c: Core, hi: u32, lo: u32) -> Core
     ensures { result ≡ with_hi_lo hi lo c }
 {
-    let cp0 = c.cp0;
-    Core {
-        hi,
-        lo,
-        pc: c.pc,
-        next_pc: c.next_pc,
-        cp0,
-        slot: c.slot,
-        branch: c.branch,
-    }
+    Core { hi, lo, ..c }
 }
 
 // `pending` is the printers' map after the effect. Only what an arm changes is written.
@@ -99,18 +76,14 @@ pub fn move_core(core: &mut [u32; 14], effect: Effect, pending: u32)
 {
     let c = core_in(core);
     match effect {
-        Effect::Nothing => {}
-        Effect::Register(_, _) => {}
         Effect::HiLo(hi, lo) => put_core(with_hi_lo(c, hi, lo), core),
         Effect::Control(register, word) => {
             put_core(with_cp0(c, with_register(c.cp0, register, word)), core)
         }
         Effect::Entry(row) => put_core(with_cp0(c, with_entry(c.cp0, row.high, row.low)), core),
-        Effect::TlbRow(_, _, _) => {}
-        Effect::Ram(_, _) => {}
-        Effect::DeviceLoad(_, _) => {}
         Effect::DeviceStore(offset, word) => put_core(stored_lines(c, offset, word, pending), core),
         Effect::Raise(e) => put_core(raised(c, e), core),
+        _ => {}
     }
 }
 
@@ -131,55 +104,47 @@ fn stored_lines(c: Core, offset: u32, word: u32, pending: u32) -> Core
 pub fn with_pc(c: Core, pc: u32, next_pc: u32, branched: bool) -> Core
     ensures { result ≡ with_pc pc next_pc (slot_after branched c) }
 {
-    let cp0 = c.cp0;
     if branched {
         return Core {
-            hi: c.hi,
-            lo: c.lo,
             pc,
             next_pc,
-            cp0,
             slot: 1,
             branch: c.pc,
+            ..c
         };
     }
     Core {
-        hi: c.hi,
-        lo: c.lo,
         pc,
         next_pc,
-        cp0,
         slot: 0,
         branch: 0,
+        ..c
     }
 }
 
 // A store in the device area, on the parts that a run holds.
-fn stored(s: Store, held: Held, settings: Settings, words: &mut [u32; 40]) -> Held
+fn stored(s: Option<Store>, held: Held, settings: Settings, words: &mut [u32; 40]) -> Held
     requires in_line { InLine s }
     requires told { Told held words.old }
     ensures { StoredIs settings s held words.old result words.new }
 {
     match s {
-        Store::Nothing => held,
-        Store::Timer(word) => timed(held, word),
-        Store::Command(n, word) => commanded(held, settings, words, n, word),
-        Store::Data(n, word) => written(held, settings, words, n, word),
+        None => held,
+        Some(Store::Timer(word)) => timed(held, word),
+        Some(Store::Command(n, word)) => commanded(held, settings, words, n, word),
+        Some(Store::Data(n, word)) => written(held, settings, words, n, word),
     }
 }
 
 fn timed(held: Held, timer: u32) -> Held
     ensures { result ≡ record { clock = record { high = held.clock.high; low = held.clock.low; timer = timer }; pending = held.pending; soon = held.soon } }
 {
-    let clock = held.clock;
     Held {
         clock: Clock {
-            high: clock.high,
-            low: clock.low,
             timer,
+            ..held.clock
         },
-        pending: held.pending,
-        soon: held.soon,
+        ..held
     }
 }
 
@@ -187,12 +152,11 @@ fn timed(held: Held, timer: u32) -> Held
 fn commanded(held: Held, settings: Settings, words: &mut [u32; 40], n: usize, word: u32) -> Held
     requires n_bound { n < 8 }
     requires told { Told held words.old }
-    ensures { StoredIs settings (Store.Command n word) held words.old result words.new }
+    ensures { StoredIs settings (Some (Store.Command n word)) held words.old result words.new }
 {
     if words[5 * n] == BUSY {
         return held;
     }
-    let clock = held.clock;
     let pending = command(
         words,
         held.pending,
@@ -202,9 +166,9 @@ fn commanded(held: Held, settings: Settings, words: &mut [u32; 40], n: usize, wo
         word,
     );
     Held {
-        clock,
         pending,
         soon: 1,
+        ..held
     }
 }
 
@@ -212,15 +176,10 @@ fn commanded(held: Held, settings: Settings, words: &mut [u32; 40], n: usize, wo
 fn written(held: Held, settings: Settings, words: &mut [u32; 40], n: usize, word: u32) -> Held
     requires n_bound { n < 8 }
     requires told { Told held words.old }
-    ensures { StoredIs settings (Store.Data n word) held words.old result words.new }
+    ensures { StoredIs settings (Some (Store.Data n word)) held words.old result words.new }
 {
-    let clock = held.clock;
     data(words, settings.installed, n, word);
-    Held {
-        clock,
-        pending: held.pending,
-        soon: held.soon,
-    }
+    held
 }
 
 fn store_device(
@@ -242,15 +201,7 @@ fn held_after(effect: Effect, held: Held, settings: Settings, words: &mut [u32; 
 {
     match effect {
         Effect::DeviceStore(offset, word) => store_device(offset, word, held, settings, words),
-        Effect::Nothing => held,
-        Effect::Register(_, _) => held,
-        Effect::HiLo(_, _) => held,
-        Effect::Control(_, _) => held,
-        Effect::Entry(_) => held,
-        Effect::TlbRow(_, _, _) => held,
-        Effect::Ram(_, _) => held,
-        Effect::DeviceLoad(_, _) => held,
-        Effect::Raise(_) => held,
+        _ => held,
     }
 }
 

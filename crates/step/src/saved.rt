@@ -13,15 +13,7 @@ pub fn old_row(effect: Effect, rows: [Row; 16]) -> Row
 {
     match effect {
         Effect::TlbRow(i, _, _) => tlb::read(rows, i as usize),
-        Effect::Nothing => Row { high: 0, low: 0 },
-        Effect::Register(_, _) => Row { high: 0, low: 0 },
-        Effect::HiLo(_, _) => Row { high: 0, low: 0 },
-        Effect::Control(_, _) => Row { high: 0, low: 0 },
-        Effect::Entry(_) => Row { high: 0, low: 0 },
-        Effect::Ram(_, _) => Row { high: 0, low: 0 },
-        Effect::DeviceLoad(_, _) => Row { high: 0, low: 0 },
-        Effect::DeviceStore(_, _) => Row { high: 0, low: 0 },
-        Effect::Raise(_) => Row { high: 0, low: 0 },
+        _ => Row { high: 0, low: 0 },
     }
 }
 
@@ -41,18 +33,14 @@ pub fn saved(effect: Effect, regs: &[u32; 32], old: Row, ram: &[u8], distance: u
     ensures { result ≡ saved_with distance effect regs.now old ram.now }
 {
     match effect {
-        Effect::Register(d, _) => Saved::Register(d, register_at(regs, d)),
-        Effect::DeviceLoad(d, _) => Saved::Register(d, register_at(regs, d)),
+        Effect::Register(d, _) | Effect::DeviceLoad(d, _) => {
+            Saved::Register(d, register_at(regs, d))
+        }
         Effect::TlbRow(i, _, _) => Saved::TlbRow(i, old),
         Effect::Ram(at, _) => {
             let short = (distance % 65536) as u32;
             Saved::RamWord(at, memory::load_word(ram, at as usize), short)
         }
-        Effect::Nothing => Saved::Nothing,
-        Effect::HiLo(_, _) => Saved::Nothing,
-        Effect::Control(_, _) => Saved::Nothing,
-        Effect::Entry(_) => Saved::Nothing,
-        Effect::DeviceStore(_, _) => Saved::Nothing,
-        Effect::Raise(_) => Saved::Nothing,
+        _ => Saved::Nothing,
     }
 }

@@ -24,18 +24,14 @@ fn rang_line(rang: bool, cause: u32) -> u32
     cause
 }
 
+#[tactic(auto, unfolding(cp0::specs::Registers::with_register))]
 fn cp0_ticked(rang: bool, pending: u32, c: Cp0) -> Cp0
     ensures { result ≡ lines_ticked rang pending (random_ticked c) }
 {
     Cp0 {
-        index: c.index,
         random: next_random(c.random),
-        entry_hi: c.entry_hi,
-        entry_lo: c.entry_lo,
-        bad_vaddr: c.bad_vaddr,
-        status: c.status,
         cause: shown(pending, rang_line(rang, c.cause)),
-        epc: c.epc,
+        ..c
     }
 }
 
@@ -43,15 +39,9 @@ fn cp0_ticked(rang: bool, pending: u32, c: Cp0) -> Cp0
 pub fn core_ticked(rang: bool, pending: u32, c: Core) -> Core
     ensures { result ≡ core_ticked rang pending c }
 {
-    let cp0 = cp0_ticked(rang, pending, c.cp0);
     Core {
-        hi: c.hi,
-        lo: c.lo,
-        pc: c.pc,
-        next_pc: c.next_pc,
-        cp0,
-        slot: c.slot,
-        branch: c.branch,
+        cp0: cp0_ticked(rang, pending, c.cp0),
+        ..c
     }
 }
 

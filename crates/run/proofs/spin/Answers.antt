@@ -12,6 +12,7 @@ use Rattle.journal.specs.Journal as slots
 use Rattle.tlb.specs.declared.Row.{Row}
 use Rattle.tlb.proofs.Laws.{written_row, length_written}
 use Rattle.pages.specs.Pages.{Known}
+use Rattle.pages.specs.declared.Pages.{Pages}
 use Rattle.pages.proofs.Knows.{knows_none}
 use Rattle.state.specs.Layout.{HoldsZero}
 use Rattle.decide.specs.Lent.{Whole}
@@ -112,7 +113,7 @@ left_of : (c : After) → (head c).loop-settings.steps < (entry (head c)).args.b
 left_of c = (goes_at c).left
 
 -- what is remembered when the step is decided
-abbrev pages_at : After → List ℕ
+abbrev pages_at : After → Pages
 pages_at c = (followed c).follow.new.pages
 
 known_at : (c : After) → Known (pages_at c) (head c).loop-settings.rows (length (entry (head c)).args.ram.now)
@@ -160,7 +161,7 @@ module _ (c : After) where
   same = rw h.loop-settings.invariant.3
 
   module _ {e : Effect} (told : d.effect ≡ e) (rows : List Row) (put : rows_after e h.loop-settings.rows ≡ rows) (long : length rows ≡ 16) (limit : ℕ)
-      (next : NextLook rows (h.loop-settings.steps + 1) a.args.budget limit) (pages : List ℕ) (true_of : Known pages rows (length a.args.ram.now)) where
+      (next : NextLook rows (h.loop-settings.steps + 1) a.args.budget limit) (pages : Pages) (true_of : Known pages rows (length a.args.ram.now)) where
     abbrev there : Config (forward roms)
     there = config_of roms a.args.settings (turns.with_rows rows parts_then) beside_then
 

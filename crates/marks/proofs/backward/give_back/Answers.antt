@@ -1,6 +1,6 @@
 -- `marks::backward::give_back` meets its contract: only a word of RAM has an entry.
 use Rattle.std.proofs.Common.{◌/◌, ap, ◌∙◌}
-use Rattle.frames.specs.declared.Entry.{Entry}
+use Rattle.std.proofs.Common.{ℕ, Option}
 use Rattle.frames.specs.Bytes.{replace_in}
 use Rattle.marks.proofs.backward.give_back.Goals as goal
 
@@ -9,4 +9,4 @@ returns-in-RamWord c =
     let place = c.in-RamWord.place in
     let a = c.args in
     rw c.in-RamWord.is
-    (c.replace_any.ensures ∙ ap (λ (e : Entry). replace_in a.time (place / 4096) e a.index.now) c.restored-entry.ensures)
+    (c.replace_any.ensures ∙ ap (λ (e : Option ℕ). replace_in a.time (place / 4096) e a.index.now) c.restored-entry.ensures)

@@ -3,12 +3,6 @@ use mathlib.Core.Path.{◌∙◌}
 use Rattle.step.proofs.Held.{put_back}
 use Rattle.step.proofs.apply.move_core.Goals as goal
 
-pub returns-in-Nothing : goal.returns-in-Nothing
-returns-in-Nothing c = rw c.in-Nothing.is
-
-pub returns-in-Register : goal.returns-in-Register
-returns-in-Register c = rw c.in-Register.is
-
 pub returns-in-HiLo : goal.returns-in-HiLo
 returns-in-HiLo c = rw c.in-HiLo.is (put_back c.put_core.ensures ∙ c.with_hi_lo.ensures ∙ rw c.core_in-c.ensures)
 
@@ -21,15 +15,6 @@ pub returns-in-Entry : goal.returns-in-Entry
 returns-in-Entry c =
     rw c.in-Entry.is
     (put_back c.put_core-in-Entry.ensures ∙ c.with_cp0-in-Entry.ensures ∙ rw (c.with_entry.ensures, c.core_in-c.ensures))
-
-pub returns-in-TlbRow : goal.returns-in-TlbRow
-returns-in-TlbRow c = rw c.in-TlbRow.is
-
-pub returns-in-Ram : goal.returns-in-Ram
-returns-in-Ram c = rw c.in-Ram.is
-
-pub returns-in-DeviceLoad : goal.returns-in-DeviceLoad
-returns-in-DeviceLoad c = rw c.in-DeviceLoad.is
 
 pub returns-in-DeviceStore : goal.returns-in-DeviceStore
 returns-in-DeviceStore c = rw c.in-DeviceStore.is (put_back c.put_core-in-DeviceStore.ensures ∙ c.stored_lines.ensures ∙ rw c.core_in-c.ensures)
