@@ -1,11 +1,8 @@
 -- What a call leaves: its answer, and what stands in each lent buffer afterwards.
-use Rattle.std.specs.Prelude.{◌≡◌}
+use Rattle.std.specs.Prelude.{◌≡◌, Ok, Err}
 use Rattle.turn.specs.Buffers.{Buffers}
-use Rattle.answer.specs.Answer.{reason_of, steps_of}
-use Rattle.answer.specs.declared.Answer.{Answer}
-use Rattle.answer.specs.declared.Answer.TheVariants.{Refused}
-use Rattle.answer.specs.declared.lent.Test.{Test}
-use Rattle.answer.specs.declared.lent.Test.TheVariants.{Passed, Failed}
+use Rattle.answer.specs.Answer.{reason_of, steps_of, Answer}
+use Rattle.answer.specs.Lent.{Test}
 
 pub record Left : Type 0 where
   pub answer : Answer
@@ -16,8 +13,8 @@ left_of answer buffers = record { answer = answer; buffers = buffers }
 
 -- a refusal leaves every byte
 abbrev pub left_by : Test → Left → Buffers → Left
-left_by Passed done buffers = done
-left_by (Failed refusal) done buffers = left_of (Refused refusal) buffers
+left_by (Ok _) done buffers = done
+left_by (Err refusal) done buffers = left_of (Err refusal) buffers
 
 -- every byte is as it was, and no step was run or taken back
 pub record Unchanged (left : Left) (buffers : Buffers) : Type 0 where

@@ -2,13 +2,12 @@
 use Prim.Native.Nat.{ℕ, zero, suc, ◌/◌, ◌%◌, ◌^◌, ◌<◌}
 use mathlib.Core.Path.{◌≡◌, refl, sym, ap, ◌∙◌}
 use native.Mathlib.Omega.{arith}
+use Rattle.std.specs.Prelude.{Ok, Err}
 use Rattle.answer.specs.declared.Reason.{Reason}
 use Rattle.answer.specs.declared.Reason.TheVariants.{NoReason, BudgetSpent, Exception, TwoMatches}
 use Rattle.answer.specs.declared.Refusal.{Refusal}
 use Rattle.answer.specs.declared.Refusal.TheVariants.{Ram, Rom, Paper, Journal, Image, Range, TooFar, BadRecord, Address, Index, Word, Room}
-use Rattle.answer.specs.declared.Answer.{Answer}
-use Rattle.answer.specs.declared.Answer.TheVariants.{Done, Refused}
-use Rattle.answer.specs.Answer.{reason_number, refusal_number, number_of, reason_of, steps_of, packed_of}
+use Rattle.answer.specs.Answer.{Answer, reason_number, refusal_number, number_of, reason_of, steps_of, packed_of}
 
 reason_small : (r : Reason) → reason_number r < 2 ^ 8
 reason_small NoReason = omega arith
@@ -46,12 +45,12 @@ refusal_small Word = omega arith
 refusal_small Room = omega arith
 
 number_small : (a : Answer) → number_of a < 2 ^ 8
-number_small (Done steps reason) = omega arith
-number_small (Refused refusal) = refusal_small refusal
+number_small (Ok d) = omega arith
+number_small (Err refusal) = refusal_small refusal
 
 reason_of_small : (a : Answer) → reason_of a < 2 ^ 8
-reason_of_small (Done steps reason) = reason_small reason
-reason_of_small (Refused refusal) = omega arith
+reason_of_small (Ok d) = reason_small d.reason
+reason_of_small (Err refusal) = omega arith
 
 module _ (a : Answer) where
   pub unpacked_number : packed_of a % 2 ^ 8 ≡ number_of a

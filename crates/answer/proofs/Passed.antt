@@ -2,15 +2,10 @@
 use Prim.Native.Nat.{ℕ}
 use mathlib.Core.Path.{◌≡◌, refl, sym, ap}
 use mathlib.Core.Bool.{Bool, true, false, cond, true≢false}
-use Rattle.answer.specs.Lent.{ram_fits, roms_fit, paper_fits, journal_fits, lent_test}
+use Rattle.std.specs.Prelude.{Err, is_ok}
+use Rattle.answer.specs.Lent.{passed, ram_fits, roms_fit, paper_fits, journal_fits, lent_test}
 use Rattle.answer.specs.declared.Refusal.TheVariants as refusal
 use Rattle.answer.specs.declared.Refusal.TheVariants.{Ram, Rom, Paper}
-use Rattle.answer.specs.declared.lent.Test.{Test}
-use Rattle.answer.specs.declared.lent.Test.TheVariants.{Passed, Failed}
-
-abbrev pub passes : Test → Bool
-passes Passed = true
-passes (Failed r) = false
 
 pub record Allowed (execution bootstrap ram paper journal : ℕ) : Type 0 where
   pub ram_fits : ram_fits ram ≡ true
@@ -18,13 +13,13 @@ pub record Allowed (execution bootstrap ram paper journal : ℕ) : Type 0 where
   pub paper_fits : paper_fits paper ≡ true
   pub journal_fits : journal_fits journal ≡ true
 
-pub allowed : (execution bootstrap ram paper journal : ℕ) → lent_test execution bootstrap ram paper journal ≡ Passed → Allowed execution bootstrap ram paper journal
+pub allowed : (execution bootstrap ram paper journal : ℕ) → lent_test execution bootstrap ram paper journal ≡ passed → Allowed execution bootstrap ram paper journal
 unfolding lent_test
 allowed execution bootstrap ram paper journal e =
-    let h = go (ram_fits ram) (roms_fit execution bootstrap) (paper_fits paper) (journal_fits journal) (ap passes e) in
+    let h = go (ram_fits ram) (roms_fit execution bootstrap) (paper_fits paper) (journal_fits journal) (ap is_ok e) in
     record { ram_fits = h.0; roms_fit = h.1; paper_fits = h.2; journal_fits = h.3 }
   where
-    go : (a b c d : Bool) → passes (cond a (cond b (cond c (cond d Passed (Failed refusal.Journal)) (Failed Paper)) (Failed Rom)) (Failed Ram)) ≡ true →
+    go : (a b c d : Bool) → is_ok (cond a (cond b (cond c (cond d passed (Err refusal.Journal)) (Err Paper)) (Err Rom)) (Err Ram)) ≡ true →
         (a ≡ true) × (b ≡ true) × (c ≡ true) × (d ≡ true)
     go true true true true e = (refl, refl, refl, refl)
     go true true true false e = absurd (true≢false (sym e))

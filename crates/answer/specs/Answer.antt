@@ -1,11 +1,18 @@
 -- What each answer says: document 01's number, the stop reason, the steps, and all three packed in 64 bits.
-use Rattle.std.specs.Prelude.{ℕ, ◌+◌, ◌*◌, ◌^◌}
+use Rattle.std.specs.Prelude.{ℕ, ◌+◌, ◌*◌, ◌^◌, Result, Ok, Err}
 use Rattle.answer.specs.declared.Reason.{Reason}
 use Rattle.answer.specs.declared.Reason.TheVariants.{NoReason, BudgetSpent, Exception, TwoMatches}
 use Rattle.answer.specs.declared.Refusal.{Refusal}
 use Rattle.answer.specs.declared.Refusal.TheVariants.{Ram, Rom, Paper, Journal, Image, Range, TooFar, BadRecord, Address, Index, Word, Room}
-use Rattle.answer.specs.declared.Answer.{Answer}
-use Rattle.answer.specs.declared.Answer.TheVariants.{Done, Refused}
+use Rattle.answer.specs.declared.Done.{Done}
+
+-- done, or refused
+abbrev pub Answer : Type 0
+Answer = Result Done Refusal
+
+-- done with so many steps, for such a reason
+abbrev pub done_with : ℕ → Reason → Answer
+done_with steps reason = Ok (record { steps = steps; reason = reason })
 
 abbrev pub reason_number : Reason → ℕ
 reason_number NoReason = 0
@@ -30,17 +37,17 @@ refusal_number Word = 11
 refusal_number Room = 12
 
 abbrev pub number_of : Answer → ℕ
-number_of (Done steps _) = 0
-number_of (Refused refusal) = refusal_number refusal
+number_of (Ok d) = 0
+number_of (Err refusal) = refusal_number refusal
 
 -- "Every refusal returns 0 steps and no stop reason"
 abbrev pub reason_of : Answer → ℕ
-reason_of (Done steps reason) = reason_number reason
-reason_of (Refused refusal) = 0
+reason_of (Ok d) = reason_number d.reason
+reason_of (Err refusal) = 0
 
 abbrev pub steps_of : Answer → ℕ
-steps_of (Done steps _) = steps
-steps_of (Refused refusal) = 0
+steps_of (Ok d) = d.steps
+steps_of (Err refusal) = 0
 
 -- the number in bits 0 to 7, the reason in bits 8 to 15, the steps in bits 32 to 63
 abbrev pub packed_of : Answer → ℕ

@@ -1,11 +1,10 @@
 -- Document 01, "Numbers for yes and no", rows 1 to 4, and document 02, row 10: the lengths of what the host lends.
-use Rattle.std.specs.Prelude.{ℕ, ◌*◌, ◌/◌, ◌%◌, Bool, cond, ◌&&◌, eqb, leb}
+use Rattle.std.specs.Prelude.{ℕ, ◌*◌, ◌/◌, ◌%◌, Bool, cond, ◌&&◌, eqb, leb, Result, Ok, Err}
 use Rattle.word.specs.Number.{between}
 use Rattle.word.specs.Sizes.{devices, record_size}
 use Rattle.board.specs.Rom.{fit_of}
+use Rattle.answer.specs.declared.Refusal.{Refusal}
 use Rattle.answer.specs.declared.Refusal.TheVariants.{Ram, Rom, Paper, Journal}
-use Rattle.answer.specs.declared.lent.Test.{Test}
-use Rattle.answer.specs.declared.lent.Test.TheVariants.{Passed, Failed}
 
 -- 1: "RAM is not 1 to 4,096 whole frames of 4,096 bytes"
 abbrev pub ram_fits : ℕ → Bool
@@ -31,16 +30,16 @@ index_fits ram len = eqb len (16 * (ram / 4096))
 abbrev pub any_index_fits : ℕ → Bool
 any_index_fits len = eqb (len % 16) 0 && between 1 4096 (len / 16)
 
+-- whether a call is refused before it does anything, and with what
+abbrev pub Test : Type 0
+Test = Result Unit Refusal
+
+abbrev pub passed : Test
+passed = Ok tt
+
 -- the lowest of rows 1 to 4 that applies
 unfoldable pub lent_test : (execution bootstrap ram paper journal : ℕ) → Test
 lent_test execution bootstrap ram paper journal =
     cond (ram_fits ram)
-    (cond (roms_fit execution bootstrap)
-    (cond (paper_fits paper) (cond (journal_fits journal) Passed (Failed Journal)) (Failed Paper))
-    (Failed Rom))
-    (Failed Ram)
-
--- the first test that fails
-abbrev pub and_then : Test → Test → Test
-and_then Passed t = t
-and_then (Failed r) t = Failed r
+    (cond (roms_fit execution bootstrap) (cond (paper_fits paper) (cond (journal_fits journal) passed (Err Journal)) (Err Paper)) (Err Rom))
+    (Err Ram)

@@ -4,12 +4,6 @@ ghost use Rattle.answer.specs.Lent.{ram_fits, roms_fit, paper_fits, journal_fits
 
 use crate::Refusal;
 
-#[derive(Clone, Copy)]
-pub enum Test {
-    Passed,
-    Failed(Refusal),
-}
-
 pub fn ram_fits(len: usize) -> bool
     ensures { result ≡ ram_fits len }
 {
@@ -49,26 +43,27 @@ pub fn any_index_fits(len: usize) -> bool
     (len % 16 == 0) & ((1 <= frames) & (frames <= 4096))
 }
 
+#[tactic(auto, unfolding(crate::specs::Lent::lent_test))]
 pub fn lent_test(
     execution: usize,
     bootstrap: usize,
     ram: usize,
     paper: usize,
     journal: usize,
-) -> Test
+) -> Result<(), Refusal>
     ensures { result ≡ lent_test execution bootstrap ram paper journal }
 {
     if !ram_fits(ram) {
-        return Test::Failed(Refusal::Ram);
+        return Err(Refusal::Ram);
     }
     if !roms_fit(execution, bootstrap) {
-        return Test::Failed(Refusal::Rom);
+        return Err(Refusal::Rom);
     }
     if !paper_fits(paper) {
-        return Test::Failed(Refusal::Paper);
+        return Err(Refusal::Paper);
     }
     if !journal_fits(journal) {
-        return Test::Failed(Refusal::Journal);
+        return Err(Refusal::Journal);
     }
-    Test::Passed
+    Ok(())
 }

@@ -2,9 +2,12 @@
 use Prim.Native.Nat.{ℕ, ◌+◌, ◌-◌, ◌*◌, ◌≤◌, ◌<◌}
 use native.Mathlib.Omega.{arith}
 use mathlib.Core.Path.{◌≡◌, refl, sym, ap, ap₂, subst, ◌∙◌}
-use mathlib.Core.Bool.{true, false}
+use mathlib.Core.Bool.{Bool, true, false}
 use mathlib.Core.List.{List}
 use lib.ListN.{length, take, drop}
+use Rattle.std.specs.Prelude.{Some, None}
+use Rattle.std.specs.Bool.{then_some}
+use Rattle.std.proofs.lemmas.Option.{none-some, same_Some}
 use Rattle.ring.specs.Slots.{slot_back}
 use Rattle.ring.specs.Back.{record_at, undone, undone_side, undone_core, all_fit_core}
 use Rattle.ring.proofs.Back.{record_part, undone_none, undone_more, side_none, side_more, core_none, core_more, fits_at, fit_none, fit_more, fit_bad, fit_each, core_undone}
@@ -15,8 +18,7 @@ use Rattle.clock.specs.Tick.{time_of}
 use Rattle.marks.specs.Steps.{given_back_of}
 use Rattle.step.specs.World.{World}
 use Rattle.undo.specs.Undo.{View, view_of, undo_of, undo_view}
-use Rattle.undo.specs.Fit.{fit_of, Undoable, CheckedIs}
-use Rattle.undo.specs.declared.fit.Verdict.{Verdict}
+use Rattle.undo.specs.Fit.{fit_of, Undoable, checked_of}
 use Rattle.undo.proofs.Laws.{cored, fit_undoable}
 use Rattle.back.specs.Back.{both, no_roms, view_in}
 use Rattle.back.proofs.Cored.{core_laws}
@@ -24,6 +26,14 @@ use Rattle.back.proofs.Cored.{core_laws}
 -- the part that is lent
 abbrev pub part : List ℕ → ℕ → List ℕ
 part journal x = take (512 * x + 512 - 512 * x) (drop (512 * x) journal)
+
+some_says : (b : Bool) (x y : Machine) → then_some b x ≡ Some y → (b ≡ true) × (x ≡ y)
+some_says true x y e = (refl, same_Some x y e)
+some_says false x y e = absurd (none-some y e)
+
+none_says : (b : Bool) (x : Machine) → then_some b x ≡ None → b ≡ false
+none_says true x e = absurd (none-some x (sym e))
+none_says false x e = refl
 
 -- ---- the pass that checks: v is what undoing the first j records makes of v₀
 
@@ -46,25 +56,26 @@ checked_end {journal} {next} {k} {v₀} {v} {j} h past =
     let all : j ≡ k = omega (arith, h.within) in
     subst (λ (i : ℕ). all_fit_core (both no_roms) (slots_of journal) journal next i v₀ ≡ true) all h.good
 
-module _ {journal : List ℕ} {next k : ℕ} {v₀ : View} {m : Machine} {ram paper j : ℕ} (h : Checked journal next k v₀ (view_in m ram paper) j) (left : j < k) (x : ℕ)
-    (at : x ≡ slot_back (slots_of journal) next (j + 1)) (r : Verdict) (is : CheckedIs (part journal x) m ram paper r) where
-  same : r.fits ≡ fits_at (both no_roms) (slots_of journal) journal next v₀ j
-  same = is.fits_is ∙ ap₂ fit_of (record_part (both no_roms) (slots_of journal) journal next j x at) (sym h.view)
+module _ {journal : List ℕ} {next k : ℕ} {v₀ : View} (m : Machine) {ram paper j : ℕ} (h : Checked journal next k v₀ (view_in m ram paper) j) (left : j < k) (x : ℕ)
+    (at : x ≡ slot_back (slots_of journal) next (j + 1)) where
+  same : fit_of (part journal x) (view_in m ram paper) ≡ fits_at (both no_roms) (slots_of journal) journal next v₀ j
+  same = ap₂ fit_of (record_part (both no_roms) (slots_of journal) journal next j x at) (sym h.view)
 
-  pub checked_bad : r.fits ≡ false → all_fit_core (both no_roms) (slots_of journal) journal next k v₀ ≡ false
-  checked_bad bad = fit_bad (both no_roms) (slots_of journal) journal next v₀ j k left (sym same ∙ bad)
+  pub checked_bad : None ≡ checked_of (part journal x) m ram paper → all_fit_core (both no_roms) (slots_of journal) journal next k v₀ ≡ false
+  checked_bad is = fit_bad (both no_roms) (slots_of journal) journal next v₀ j k left (sym same ∙ none_says _ _ (sym is))
 
-  pub checked_more : r.fits ≡ true → Checked journal next k v₀ (view_in r.machine ram paper) (j + 1)
-  checked_more good =
+  pub checked_more : (before : Machine) → Some before ≡ checked_of (part journal x) m ram paper → Checked journal next k v₀ (view_in before ram paper) (j + 1)
+  checked_more before is =
       let M = both no_roms in
       let n = slots_of journal in
+      let said = some_says _ _ _ (sym is) in
       record {
         within = omega arith;
-        good = fit_more M n journal next v₀ j h.good (sym same ∙ good);
+        good = fit_more M n journal next v₀ j h.good (sym same ∙ said.0);
         view =
             core_more M n journal next v₀ j
             ∙ ap₂ (λ (slot : List ℕ) (v : View). undo_view (record_of slot) v) (sym (record_part M n journal next j x at)) h.view
-            ∙ ap (λ (b : Machine). view_in b ram paper) (sym (is.machine_is good));
+            ∙ ap (λ (b : Machine). view_in b ram paper) said.1;
       }
 
 -- ---- the pass that undoes: w is what undoing the first j records makes of w₀, and x what it makes of the index x₀

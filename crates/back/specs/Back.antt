@@ -1,5 +1,5 @@
 -- The machine of document 01 as `ring` runs it forth and back: what run has of it, and how a record is checked and undone.
-use Rattle.std.specs.Prelude.{ℕ, ◌≤◌, cond, List, [], ◌≡◌, ltb, length}
+use Rattle.std.specs.Prelude.{ℕ, ◌≤◌, cond, List, [], ◌≡◌, ltb, length, Result, Ok, Err}
 use Rattle.ring.specs.Machine.{Machine}
 use Rattle.ring.specs.Back.{How, Took, take_back, all_fit_core, done, too_far, bad_record}
 use Rattle.record.specs.Layout.{record_of}
@@ -13,8 +13,10 @@ use Rattle.marks.specs.Steps.{FitsRam}
 use Rattle.run.specs.Run.{config_of}
 use Rattle.undo.specs.Undo.{View, view_of, undo_view, undo_of}
 use Rattle.undo.specs.Fit.{fit_of}
-use Rattle.back.specs.declared.Answer.{Answer}
-use Rattle.back.specs.declared.Answer.TheVariants.{Done, TooFar, Bad}
+use Rattle.answer.specs.declared.Refusal.{Refusal}
+use Rattle.answer.specs.declared.Refusal.TheVariants as refusal
+use Rattle.back.specs.declared.Fault.{Fault}
+use Rattle.back.specs.declared.Fault.TheVariants.{TooFar, Bad}
 
 -- what run has of it, and one step back
 abbrev pub base : Roms → Base
@@ -41,14 +43,19 @@ back_of k m b = take_back (both no_roms) (slots_of b.journal) k (config_of no_ro
 
 -- ---- aids to proofs: nothing that a reader must believe
 
+-- rows 7 and 8 of the refusals
+abbrev pub refusal_of : Fault → Refusal
+refusal_of TooFar = refusal.TooFar
+refusal_of Bad = refusal.BadRecord
+
 -- what a record is checked against, of the machine of an image with RAM and paper of so many bytes
 abbrev pub view_in : state.Machine → ℕ → ℕ → View
 view_in m ram paper = record { cpu = m.cpu; board = m.board; ram = ram; paper = paper }
 
-abbrev pub how_of : Answer → How
-how_of Done = done
-how_of TooFar = too_far
-how_of Bad = bad_record
+abbrev pub how_of : Result Unit Fault → How
+how_of (Ok _) = done
+how_of (Err TooFar) = too_far
+how_of (Err Bad) = bad_record
 
 -- whether k steps can be taken back, of the machine of an image with RAM and paper of so many bytes
 abbrev pub asked_of : ℕ → state.Machine → ℕ → ℕ → List ℕ → How

@@ -17,16 +17,13 @@ pub fn all_fit(m: Machine, ram: usize, paper: usize, journal: &[u8], next: usize
 {
     let slots = journal.len() / SLOT;
     let mut here = m;
-    let mut j = 0;
-    while j < k {
+    for j in 0..k {
         let at = SLOT * ring::slot_back(slots, next, j + 1);
         let end = at + SLOT;
-        let seen = checked(&journal[at..end], here, ram, paper);
-        if !seen.fits {
+        let Some(before) = checked(&journal[at..end], here, ram, paper) else {
             return false;
-        }
-        here = seen.machine;
-        j += 1;
+        };
+        here = before;
     }
     true
 }

@@ -35,9 +35,7 @@ fn undo_slot(
     ensures index_after { index.new ≡ given_back_of (time_of m.board.clock) hand (record_of slot.now).saved index.old }
 {
     let r = decode(slot);
-    let saved = r.saved;
-    let board = m.board;
-    give_back(index, time(board.clock), hand as u64, saved);
+    give_back(index, time(m.board.clock), hand as u64, r.saved);
     undo(r, m, ram, paper)
 }
 
@@ -67,13 +65,11 @@ pub fn undo_all(
 {
     let slots = journal.len() / SLOT;
     let mut here = m;
-    let mut j = 0;
-    while j < k {
+    for j in 0..k {
         let at = SLOT * ring::slot_back(slots, next, j + 1);
         let end = at + SLOT;
         let before = undo_slot(&journal[at..end], here, ram, paper, index, hand - j);
         here = before;
-        j += 1;
     }
     here
 }

@@ -16,34 +16,35 @@ use Rattle.state.specs.Layout.{bytes_of, machine_of}
 use Rattle.state.specs.declared.machine.Machine.{Machine}
 use Rattle.rules.specs.Rules.{bytes_keep, journal_keeps, state_keeps, machine_keeps, keeps_rules}
 use Rattle.turn.specs.Buffers.{Beside, Buffers, beside_of}
-use Rattle.back.specs.Back.{no_roms, back_of, asked_of, Fits, TakeIs}
+use Rattle.back.specs.Back.{no_roms, back_of, refusal_of, how_of, asked_of, Fits, TakeIs}
+use Rattle.back.specs.declared.Fault.{Fault}
+use Rattle.back.specs.declared.Fault.TheVariants.{TooFar, Bad}
 use Rattle.back.proofs.Answers.{asked_is, done_says}
 use Rattle.back.specs.Back as taking
-use Rattle.answer.specs.Lent.{ram_fits, paper_fits, journal_fits, index_fits}
-use Rattle.answer.specs.declared.Answer.TheVariants.{Done, Refused}
+use Rattle.answer.specs.Lent.{ram_fits, paper_fits, journal_fits, index_fits, passed}
+use Rattle.std.specs.Prelude.{Err, is_ok}
+use Rattle.answer.specs.Answer.{done_with}
 use Rattle.answer.specs.declared.Reason.TheVariants.{NoReason}
 use Rattle.accepted.specs.Left.{Left, left_of}
 use Rattle.backward.specs.Back.{buffers_test, beside_back_test, rule_test, done_back, left_how, tried_back, Judged}
 use Rattle.answer.specs.declared.Refusal.TheVariants as refusal
 use Rattle.answer.specs.declared.Refusal.TheVariants.{Ram, Paper, Image}
-use Rattle.answer.specs.declared.lent.Test.TheVariants.{Passed, Failed}
-use Rattle.answer.proofs.Passed.{passes}
 use Rattle.accepted.proofs.Start.{ring_sound}
 
 -- ---- what is lent
 
-pub buffers_allowed : (ram paper journal : ℕ) → buffers_test ram paper journal ≡ Passed → (ram_fits ram ≡ true) × (paper_fits paper ≡ true) × (journal_fits journal ≡ true)
+pub buffers_allowed : (ram paper journal : ℕ) → buffers_test ram paper journal ≡ passed → (ram_fits ram ≡ true) × (paper_fits paper ≡ true) × (journal_fits journal ≡ true)
 unfolding buffers_test
-buffers_allowed ram paper journal e = go (ram_fits ram) (paper_fits paper) (journal_fits journal) (ap passes e)
+buffers_allowed ram paper journal e = go (ram_fits ram) (paper_fits paper) (journal_fits journal) (ap is_ok e)
   where
-    go : (a b c : Bool) → passes (cond a (cond b (cond c Passed (Failed refusal.Journal)) (Failed Paper)) (Failed Ram)) ≡ true → (a ≡ true) × (b ≡ true) × (c ≡ true)
+    go : (a b c : Bool) → is_ok (cond a (cond b (cond c passed (Err refusal.Journal)) (Err Paper)) (Err Ram)) ≡ true → (a ≡ true) × (b ≡ true) × (c ≡ true)
     go true true true e = (refl, refl, refl)
     go true true false e = absurd (true≢false (sym e))
     go true false c e = absurd (true≢false (sym e))
     go false b c e = absurd (true≢false (sym e))
 
 -- what the tests leave is what taking back asks for
-pub judged_is : (b : Buffers) {m : Machine} → beside_back_test b.beside ≡ Passed →
+pub judged_is : (b : Buffers) {m : Machine} → beside_back_test b.beside ≡ passed →
     keeps_rules b.image (length b.beside.paper) (length b.beside.journal) ≡ true → m ≡ machine_of b.image → Judged b.beside m
 unfolding keeps_rules machine_keeps
 judged_is b passed keeps is =
@@ -75,16 +76,16 @@ fits_back b j each =
 -- ---- the image
 
 module _ (b : Buffers) where
-  pub bad_length : (length b.image ≡ 741 → ⊥) → rule_test b ≡ Failed Image
+  pub bad_length : (length b.image ≡ 741 → ⊥) → rule_test b ≡ Err Image
   unfolding rule_test
   bad_length h = rw (ne_eqb (length b.image) 741 h)
 
   module _ (long : length b.image ≡ 741) where
-    pub bad_rules : keeps_rules b.image (length b.beside.paper) (length b.beside.journal) ≡ false → rule_test b ≡ Failed Image
+    pub bad_rules : keeps_rules b.image (length b.beside.paper) (length b.beside.journal) ≡ false → rule_test b ≡ Err Image
     unfolding rule_test
     bad_rules e = rw (eq-eqb (length b.image) 741 long, e)
 
-    pub all_passed : keeps_rules b.image (length b.beside.paper) (length b.beside.journal) ≡ true → rule_test b ≡ Passed
+    pub all_passed : keeps_rules b.image (length b.beside.paper) (length b.beside.journal) ≡ true → rule_test b ≡ passed
     unfolding rule_test
     all_passed e = rw (eq-eqb (length b.image) 741 long, e)
 
@@ -115,18 +116,23 @@ module _ (b : Buffers) (k : ℕ) {m : Machine} (is : m ≡ machine_of b.image) w
       ∙ ap (λ (x : How). left_how x (let c = (back_of k (machine_of b.image) lent).config in done_back k lent c.state c.side c.ring) b)
       (sym (answer_is h e))
 
-  pub tried_far : too_far ≡ said → left_of (Refused refusal.TooFar) b ≡ tried_back b k
+  tried_far : too_far ≡ said → left_of (Err refusal.TooFar) b ≡ tried_back b k
   tried_far e = leaves too_far (sym e) _ refl
 
-  pub tried_bad : bad_record ≡ said → left_of (Refused refusal.BadRecord) b ≡ tried_back b k
+  tried_bad : bad_record ≡ said → left_of (Err refusal.BadRecord) b ≡ tried_back b k
   tried_bad e = leaves bad_record (sym e) _ refl
 
-  pub tried_index : done ≡ said → each ≡ false → left_of (Refused refusal.Index) b ≡ tried_back b k
+  -- by the fault that was found
+  pub tried_fault : (fault : Fault) → how_of (Err fault) ≡ said → left_of (Err (refusal_of fault)) b ≡ tried_back b k
+  tried_fault TooFar e = tried_far e
+  tried_fault Bad e = tried_bad e
+
+  pub tried_index : done ≡ said → each ≡ false → left_of (Err refusal.Index) b ≡ tried_back b k
   tried_index e other = leaves done (sym e) _ (rw other)
 
   pub tried_done : said ≡ done → each ≡ true → (after : Machine) (ram paper index : List ℕ) →
       TakeIs k m lent after (beside_of lent.execution lent.bootstrap ram paper lent.journal index) →
-      left_of (Done k NoReason) (record { image = bytes_of after; beside = beside_of lent.execution lent.bootstrap ram paper lent.journal index }) ≡ tried_back b k
+      left_of (done_with k NoReason) (record { image = bytes_of after; beside = beside_of lent.execution lent.bootstrap ram paper lent.journal index }) ≡ tried_back b k
   tried_done e fits after ram paper index took =
       let M = taking.both no_roms in
       leaves done e _

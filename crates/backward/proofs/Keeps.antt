@@ -32,8 +32,7 @@ use Rattle.turn.specs.Buffers.{Buffers}
 use Rattle.back.specs.Back as back
 use Rattle.back.specs.Back.{no_roms}
 use Rattle.answer.specs.declared.Reason.TheVariants.{NoReason}
-use Rattle.answer.specs.declared.Answer.TheVariants.{Done}
-use Rattle.answer.specs.Answer.{packed_of}
+use Rattle.answer.specs.Answer.{packed_of, done_with}
 use Rattle.answer.specs.Lent.{ram_fits, paper_fits, journal_fits, index_fits}
 use Rattle.accepted.specs.After.{world_from, machine_after}
 use Rattle.accepted.specs.Left.{Left, left_of}
@@ -181,7 +180,7 @@ module _ (b : Buffers) (ram_fits : ram_fits (length b.beside.ram) ≡ true) (pap
   none_done =
       (number_0 b 0).1 (ram_fits, (paper_fits, (journal_fits, (good, (le-leb 0 (machine_of b.image).journal.on_hand (omega arith), (refl, each))))))
 
-  pub back_none : Below 256 b.image → back_leaves b 0 ≡ left_of (Done 0 NoReason) b
+  pub back_none : Below 256 b.image → back_leaves b 0 ≡ left_of (done_with 0 NoReason) b
   back_none small =
       let mark = (machine_of b.image).journal in
       let journal = b.beside.journal in
@@ -195,5 +194,5 @@ module _ (b : Buffers) (ram_fits : ram_fits (length b.beside.ram) ≡ true) (pap
       (undone_none (back.both no_roms) n journal mark.next_slot w)
       (side_none (back.both no_roms) n journal mark.next_slot w mark.on_hand b.beside.index)
       ∙ ap (done_back 0 b.beside w b.beside.index) same
-      ∙ ap (λ (image : List ℕ). left_of (Done 0 NoReason) (record { image = image; beside = b.beside }))
+      ∙ ap (λ (image : List ℕ). left_of (done_with 0 NoReason) (record { image = image; beside = b.beside }))
       (good_same b.image (length b.beside.paper) (length journal) small good)

@@ -20,12 +20,10 @@ use Rattle.turn.specs.Buffers.{Buffers}
 use Rattle.run.specs.Run.{config_of}
 use Rattle.back.specs.Back.{both, no_roms, back_of}
 use Rattle.answer.specs.declared.Refusal.TheVariants.{Ram, Paper, Journal, Image, Index}
-use Rattle.answer.specs.declared.Answer.TheVariants.{Refused}
-use Rattle.answer.specs.declared.Answer.{Answer}
-use Rattle.answer.specs.declared.lent.Test.{Test}
-use Rattle.answer.specs.declared.lent.Test.TheVariants.{Passed, Failed}
-use Rattle.answer.specs.Answer.{number_of, reason_of, steps_of}
-use Rattle.answer.specs.Lent.{ram_fits, paper_fits, journal_fits, index_fits, and_then}
+use Rattle.std.specs.Prelude.{Ok, Err}
+use Rattle.answer.specs.Answer.{number_of, reason_of, steps_of, Answer}
+use Rattle.std.specs.Result.{result_and}
+use Rattle.answer.specs.Lent.{ram_fits, paper_fits, journal_fits, index_fits, Test, passed}
 use Rattle.answer.proofs.Rows.{Row, row, number_in, number_at, First, Rising, number_exact, zero_exact, number_other, number_most}
 use Rattle.accepted.specs.After.{world_from}
 use Rattle.accepted.specs.Left.{Left, left_of, left_by, Unchanged}
@@ -34,7 +32,7 @@ use Rattle.backward.specs.Back.{buffers_test, rule_test, back_test, done_back, l
 -- ---- seven tests in a row
 
 abbrev test_of : (a b c d : Bool) → Test
-test_of a b c d = and_then (cond a (cond b (cond c Passed (Failed Journal)) (Failed Paper)) (Failed Ram)) (cond d Passed (Failed Image))
+test_of a b c d = result_and (cond a (cond b (cond c passed (Err Journal)) (Err Paper)) (Err Ram)) (cond d passed (Err Image))
 
 -- the number of what the first four tests let through
 abbrev tried_number : Bool → Bool → Bool → ℕ
@@ -59,7 +57,7 @@ unchanged_took : (k : ℕ) (buffers : Buffers) (t : Took (both no_roms)) →
 unchanged_took k buffers t h = by t.answer h
   where
     by_index : (each : Bool) →
-        let left = cond each (done_back k buffers.beside t.config.state t.config.side t.config.ring) (left_of (Refused Index) buffers) in
+        let left = cond each (done_back k buffers.beside t.config.state t.config.side t.config.ring) (left_of (Err Index) buffers) in
         (number_of left.answer ≡ 0 → ⊥) → Unchanged left buffers
     by_index true h = absurd (h refl)
     by_index false h = record { same = refl; no_steps = refl; no_reason = refl }
@@ -73,8 +71,8 @@ unchanged_took k buffers t h = by t.answer h
 
 unchanged : (t : Test) (tried : Left) (buffers : Buffers) → ((number_of tried.answer ≡ 0 → ⊥) → Unchanged tried buffers) →
     let left = left_by t tried buffers in (number_of left.answer ≡ 0 → ⊥) → Unchanged left buffers
-unchanged Passed tried buffers took h = took h
-unchanged (Failed refusal) tried buffers took h = record { same = refl; no_steps = refl; no_reason = refl }
+unchanged (Ok _) tried buffers took h = took h
+unchanged (Err refusal) tried buffers took h = record { same = refl; no_steps = refl; no_reason = refl }
 
 -- ---- the call
 
@@ -207,9 +205,9 @@ module _ (buffers : Buffers) (k : ℕ) where
   refused_same h =
       unchanged (back_test buffers) tried buffers (unchanged_took k buffers (back_of k (machine_of buffers.image) buffers.beside)) h
 
-  passed : back_number ≡ 0 → back_test buffers ≡ Passed
+  tests_passed : back_number ≡ 0 → back_test buffers ≡ passed
   unfolding buffers_test rule_test
-  passed e =
+  tests_passed e =
       let h = number_0.0 e in
       rw (h.0, h.1.0, h.1.1.0, h.1.1.1.0)
 
@@ -218,7 +216,7 @@ module _ (buffers : Buffers) (k : ℕ) where
   unfolding back_leaves
   done_is e =
       let h = number_0.0 e in
-      ap (λ (t : Test). left_by t tried buffers) (passed e) ∙ tried_done h.1.1.1.1.0 h.1.1.1.1.1.0 h.1.1.1.1.1.1
+      ap (λ (t : Test). left_by t tried buffers) (tests_passed e) ∙ tried_done h.1.1.1.1.0 h.1.1.1.1.1.0 h.1.1.1.1.1.1
 
   -- "A done take-back of k reports k and no reason"
   pub done_steps : back_number ≡ 0 → (steps_of left.answer ≡ k) × (reason_of left.answer ≡ 0)

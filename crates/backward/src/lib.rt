@@ -6,30 +6,32 @@ ghost use Rattle.ring.specs.Back.{done};
 ghost use Rattle.back.specs.Back.{Fits, asked_of};
 ghost use Rattle.state.specs.Layout.{machine_of};
 ghost use Rattle.turn.specs.Buffers.{beside_back, buffers_back};
+ghost use Rattle.answer.specs.Lent.{passed};
 ghost use Rattle.accepted.specs.Left.{left_of};
 ghost use Rattle.backward.specs.Back.{buffers_test, beside_back_test, Judged, tried_back, rule_leaves, back_leaves};
 
-use answer::lent::{Test, index_fits, journal_fits, paper_fits, ram_fits};
-use answer::{Answer, Reason, Refusal};
+use answer::lent::{index_fits, journal_fits, paper_fits, ram_fits};
+use answer::{Answer, Done, Reason, Refusal};
 use rules::judged;
 use state::IMAGE;
 use state::encode::encode;
 use state::machine::Machine;
 
 // Rows 1, 3 and 4: no ROM is lent.
-pub fn buffers_test(ram: usize, paper: usize, journal: usize) -> Test
+#[tactic(auto, unfolding(crate::specs::Back::buffers_test))]
+pub fn buffers_test(ram: usize, paper: usize, journal: usize) -> Result<(), Refusal>
     ensures { result ≡ buffers_test ram paper journal }
 {
     if !ram_fits(ram) {
-        return Test::Failed(Refusal::Ram);
+        return Err(Refusal::Ram);
     }
     if !paper_fits(paper) {
-        return Test::Failed(Refusal::Paper);
+        return Err(Refusal::Paper);
     }
     if !journal_fits(journal) {
-        return Test::Failed(Refusal::Journal);
+        return Err(Refusal::Journal);
     }
-    Test::Passed
+    Ok(())
 }
 
 // With nothing left to refuse.
@@ -51,7 +53,10 @@ fn done(
 {
     let after = back::take_back(machine, ram, paper, journal, index, steps);
     encode(after, image);
-    Answer::Done(steps as u32, Reason::NoReason)
+    Ok(Done {
+        steps: steps as u32,
+        reason: Reason::NoReason,
+    })
 }
 
 // Rows 7, 8 and 10, with nothing else left to refuse.
@@ -70,16 +75,11 @@ fn tried(
     ensures { left_of result (buffers_back image.new ram.new paper.new journal.now index.new)
         ≡ tried_back (buffers_back image.old ram.old paper.old journal.now index.old) steps }
 {
-    match back::asked(machine, ram.len(), paper.len(), journal, steps) {
-        back::Answer::TooFar => Answer::Refused(Refusal::TooFar),
-        back::Answer::Bad => Answer::Refused(Refusal::BadRecord),
-        back::Answer::Done => {
-            if !index_fits(ram.len(), index.len()) {
-                return Answer::Refused(Refusal::Index);
-            }
-            done(machine, image, ram, paper, journal, index, steps)
-        }
+    back::asked(machine, ram.len(), paper.len(), journal, steps)?;
+    if !index_fits(ram.len(), index.len()) {
+        return Err(Refusal::Index);
     }
+    done(machine, image, ram, paper, journal, index, steps)
 }
 
 // Row 5, of lengths that are allowed.
@@ -91,16 +91,16 @@ fn with_image(
     index: &mut [u8],
     steps: u64,
 ) -> Answer
-    requires { beside_back_test (beside_back ram.old paper.old journal.now index.old) ≡ Test.Passed }
+    requires { beside_back_test (beside_back ram.old paper.old journal.now index.old) ≡ passed }
     ensures { left_of result (buffers_back image.new ram.new paper.new journal.now index.new)
         ≡ rule_leaves (buffers_back image.old ram.old paper.old journal.now index.old) steps }
 {
     if image.len() != IMAGE {
-        return Answer::Refused(Refusal::Image);
+        return Err(Refusal::Image);
     }
     let verdict = judged(image, paper.len(), journal.len());
     if !verdict.keeps {
-        return Answer::Refused(Refusal::Image);
+        return Err(Refusal::Image);
     }
     let machine = verdict.machine;
     tried(machine, image, ram, paper, journal, index, steps)
@@ -117,9 +117,6 @@ pub fn take_back(
     ensures { left_of result (buffers_back image.new ram.new paper.new journal.now index.new)
         ≡ back_leaves (buffers_back image.old ram.old paper.old journal.now index.old) steps }
 {
-    let test = buffers_test(ram.len(), paper.len(), journal.len());
-    match test {
-        Test::Failed(refusal) => Answer::Refused(refusal),
-        Test::Passed => with_image(image, ram, paper, journal, index, steps),
-    }
+    buffers_test(ram.len(), paper.len(), journal.len())?;
+    with_image(image, ram, paper, journal, index, steps)
 }

@@ -15,14 +15,13 @@ use Rattle.rules.specs.Rules.{good_image}
 use Rattle.answer.specs.Lent.{paper_fits}
 use Rattle.answer.specs.declared.Reason.TheVariants.{NoReason}
 use Rattle.answer.specs.declared.Refusal.TheVariants.{Paper, Journal, Image}
-use Rattle.answer.specs.declared.Answer.{Answer}
-use Rattle.answer.specs.declared.Answer.TheVariants.{Done, Refused}
-use Rattle.answer.specs.Answer.{number_of, reason_of, steps_of}
+use Rattle.std.specs.Prelude.{Ok, Err}
+use Rattle.answer.specs.Answer.{number_of, reason_of, steps_of, Answer, done_with}
 use Rattle.convert.specs.Convert.{journal_before, keeps_before, machine_before, emptied, images_fit, convert_answer, image_after, convert_image, ConvertIs}
 use Rattle.convert.proofs.Keeps.{converted_machine, converted_keeps}
 
 abbrev answered : Bool → Bool → Bool → Answer
-answered x y z = cond x (cond y (cond z (Done 0 NoReason) (Refused Image)) (Refused Journal)) (Refused Paper)
+answered x y z = cond x (cond y (cond z (done_with 0 NoReason) (Err Image)) (Err Journal)) (Err Paper)
 
 -- which tests led to which number
 pub record By (x y z : Bool) (n : ℕ) : Type 0 where
@@ -95,8 +94,8 @@ module _ (old image : List ℕ) (paper journal : ℕ) where
   refused_same h = kept (convert_answer old image paper journal) h
     where
       kept : (r : Answer) → (number_of r ≡ 0 → ⊥) → image_after r old image ≡ image
-      kept (Done steps _) h = absurd (h refl)
-      kept (Refused refusal) h = refl
+      kept (Ok d) h = absurd (h refl)
+      kept (Err refusal) h = refl
 
   -- two answers that the statement allows are equal, and so are the images
   pub one_answer : (r₁ r₂ : Answer) (b₁ b₂ : List ℕ) → ConvertIs old image paper journal r₁ b₁ → ConvertIs old image paper journal r₂ b₂ → (r₁ ≡ r₂) × (b₁ ≡ b₂)

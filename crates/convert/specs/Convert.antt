@@ -1,15 +1,13 @@
 -- Document 02, L2: "Old images answer 5; one call converts the version before, .. and no steps on hand." Since L4 the version before is 2, which has no disks.
-use Rattle.std.specs.Prelude.{ℕ, ◌+◌, ◌*◌, ◌/◌, ◌%◌, Bool, cond, ◌&&◌, List, ◌++◌, ◌≡◌, eqb, leb, length, get_or, replicate}
+use Rattle.std.specs.Prelude.{ℕ, ◌+◌, ◌*◌, ◌/◌, ◌%◌, Bool, cond, ◌&&◌, List, ◌++◌, ◌≡◌, eqb, leb, length, get_or, replicate, Ok, Err}
 use Rattle.word.specs.Big.{word_at}
 use Rattle.state.specs.declared.machine.Machine.{Machine}
 use Rattle.state.specs.Layout.{disk_words, disks_base, body_of, image_length, machine_of, bytes_of}
 use Rattle.rules.specs.Rules.{state_keeps, journal_keeps}
-use Rattle.answer.specs.Answer.{packed_of}
+use Rattle.answer.specs.Answer.{packed_of, Answer, done_with}
 use Rattle.answer.specs.Lent.{paper_fits}
 use Rattle.answer.specs.declared.Reason.TheVariants.{NoReason}
 use Rattle.answer.specs.declared.Refusal.TheVariants.{Paper, Journal, Image}
-use Rattle.answer.specs.declared.Answer.{Answer}
-use Rattle.answer.specs.declared.Answer.TheVariants.{Done, Refused}
 
 -- ---- the version before: its image ends before the words that L4 adds, and its record has 256 bytes
 
@@ -56,13 +54,13 @@ images_fit old image paper journal = eqb (length old) old_length && eqb (length 
 abbrev pub convert_answer : List ℕ → List ℕ → ℕ → ℕ → Answer
 convert_answer old image paper journal =
     cond (paper_fits paper)
-    (cond (journal_before journal) (cond (images_fit old image paper journal) (Done 0 NoReason) (Refused Image)) (Refused Journal))
-    (Refused Paper)
+    (cond (journal_before journal) (cond (images_fit old image paper journal) (done_with 0 NoReason) (Err Image)) (Err Journal))
+    (Err Paper)
 
 -- a refusal writes nothing
 abbrev pub image_after : Answer → List ℕ → List ℕ → List ℕ
-image_after (Done steps _) old image = bytes_of (emptied (machine_before old))
-image_after (Refused refusal) old image = image
+image_after (Ok d) old image = bytes_of (emptied (machine_before old))
+image_after (Err refusal) old image = image
 
 abbrev pub convert_image : List ℕ → List ℕ → ℕ → ℕ → List ℕ
 convert_image old image paper journal = image_after (convert_answer old image paper journal) old image

@@ -5,7 +5,7 @@ ghost use Rattle.std.specs.Prelude.{◌≡◌, ◌++◌, length, replicate};
 ghost use Rattle.convert.specs.Convert.{journal_before, header_before, machine_before, keeps_before, emptied, ConvertIs, PackedConvertIs};
 
 use answer::lent::paper_fits;
-use answer::{Answer, Reason, Refusal, packed};
+use answer::{Answer, Done, Reason, Refusal, packed};
 use rules::{Verdict, journal_keeps, state_keeps};
 use state::IMAGE;
 use state::decode::decode;
@@ -25,9 +25,7 @@ fn widened(old: &[u8]) -> [u8; 741]
     ensures { result ≡ old.now ++ replicate 232 0 }
 {
     let mut wide = [0u8; 741];
-    for i in 0..509 {
-        wide[i] = old[i];
-    }
+    wide[..OLD].copy_from_slice(old);
     wide
 }
 
@@ -45,6 +43,7 @@ fn header_keeps(old: &[u8]) -> bool
 }
 
 // The machine beside the answer, so that it is decoded once.
+#[tactic(auto, unfolding(crate::specs::Convert::machine_before, crate::specs::Convert::keeps_before))]
 fn judged(old: &[u8], paper: usize, journal: usize) -> Verdict
     requires { length old.now ≡ 509 }
     ensures { result ≡ record { keeps = keeps_before old.now paper journal; machine = machine_before old.now } }
@@ -59,15 +58,12 @@ fn judged(old: &[u8], paper: usize, journal: usize) -> Verdict
 fn emptied(m: Machine) -> Machine
     ensures { result ≡ emptied m }
 {
-    let cpu = m.cpu;
-    let board = m.board;
     Machine {
-        cpu,
-        board,
         journal: Journal {
             on_hand: 0,
             next_slot: 0,
         },
+        ..m
     }
 }
 
@@ -76,25 +72,28 @@ pub fn convert(old: &[u8], image: &mut [u8], paper: &[u8], journal: &[u8]) -> An
     ensures { ConvertIs old.now image.old (length paper.now) (length journal.now) result image.new }
 {
     if !paper_fits(paper.len()) {
-        return Answer::Refused(Refusal::Paper);
+        return Err(Refusal::Paper);
     }
     if !journal_before(journal.len()) {
-        return Answer::Refused(Refusal::Journal);
+        return Err(Refusal::Journal);
     }
     if old.len() != OLD {
-        return Answer::Refused(Refusal::Image);
+        return Err(Refusal::Image);
     }
     if image.len() != IMAGE {
-        return Answer::Refused(Refusal::Image);
+        return Err(Refusal::Image);
     }
     let verdict = judged(old, paper.len(), journal.len());
     if !verdict.keeps {
-        return Answer::Refused(Refusal::Image);
+        return Err(Refusal::Image);
     }
     let was = verdict.machine;
     let m = emptied(was);
     encode(m, image);
-    Answer::Done(0, Reason::NoReason)
+    Ok(Done {
+        steps: 0,
+        reason: Reason::NoReason,
+    })
 }
 
 // The same for C: liblavushmir.a exports it, and libstation.a, so that a program links with one of them.

@@ -30,7 +30,7 @@ use Rattle.marks.specs.Index.{distance_in, ahead}
 use Rattle.turn.specs.Buffers.{Beside, Buffers, roms_in}
 use Rattle.run.specs.Run.{forward, config_of}
 use Rattle.answer.specs.declared.Reason.TheVariants.{BudgetSpent}
-use Rattle.answer.specs.declared.Answer.TheVariants.{Done}
+use Rattle.answer.specs.Answer.{done_with}
 use Rattle.answer.specs.Lent.{ram_fits, roms_fit, paper_fits, journal_fits, index_fits}
 use Rattle.accepted.specs.After.{world_from}
 use Rattle.accepted.specs.Left.{Left, left_of}
@@ -177,14 +177,14 @@ module _ (b : Buffers) (budget stop : ℕ) (number : run_number b budget stop �
 
 module _ (b : Buffers) (budget stop : ℕ) (number : run_number b budget stop ≡ 0) (why : Why)
     (none : ran_of b budget stop ≡ ended (config_of (roms_in b.beside) (machine_of b.image) b.beside) 0 why) where
-  stayed : done_run b budget stop ≡ left_of (Done 0 (reason_named why)) (record { image = bytes_of (machine_of b.image); beside = b.beside })
+  stayed : done_run b budget stop ≡ left_of (done_with 0 (reason_named why)) (record { image = bytes_of (machine_of b.image); beside = b.beside })
   unfolding done_run
   stayed = rw none
 
-  pub stays : Below 256 b.image → run_leaves b budget stop ≡ left_of (Done 0 (reason_named why)) b
+  pub stays : Below 256 b.image → run_leaves b budget stop ≡ left_of (done_with 0 (reason_named why)) b
   stays small =
       done_is b budget stop number ∙ stayed
-      ∙ ap (λ (image : List ℕ). left_of (Done 0 (reason_named why)) (record { image = image; beside = b.beside }))
+      ∙ ap (λ (image : List ℕ). left_of (done_with 0 (reason_named why)) (record { image = image; beside = b.beside }))
       (good_same b.image (length b.beside.paper) (length b.beside.journal) small ((number_0 b budget stop).0 number).1.1.1.1.0)
 
 -- ---- "Budget 0 [..] [is] done and change[s] nothing", and "for budget 0 [the reason] is the budget"
@@ -197,7 +197,7 @@ module _ (b : Buffers) (stop : ℕ) (ram_fits : ram_fits (length b.beside.ram) �
   none_done : run_number b 0 stop ≡ 0
   none_done = (number_0 b 0 stop).1 (ram_fits, (roms_fit, (paper_fits, (journal_fits, (good, (le-leb 0 1000000 (omega arith), index_fits))))))
 
-  pub run_none : Below 256 b.image → run_leaves b 0 stop ≡ left_of (Done 0 BudgetSpent) b
+  pub run_none : Below 256 b.image → run_leaves b 0 stop ≡ left_of (done_with 0 BudgetSpent) b
   run_none small =
       let roms = roms_in b.beside in
       stays b 0 stop none_done spent

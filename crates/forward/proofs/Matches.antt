@@ -16,8 +16,7 @@ use Rattle.step.specs.World.{World, Roms}
 use Rattle.turn.specs.Buffers.{Buffers, roms_in}
 use Rattle.run.specs.Run.{forward, config_of}
 use Rattle.answer.specs.declared.Reason.TheVariants.{BudgetSpent, TwoMatches}
-use Rattle.answer.specs.declared.Answer.TheVariants.{Done}
-use Rattle.answer.specs.Answer.{reason_of, steps_of}
+use Rattle.answer.specs.Answer.{reason_of, steps_of, done_with}
 use Rattle.accepted.specs.After.{world_from}
 use Rattle.accepted.specs.Left.{Left, left_of}
 use Rattle.forward.specs.Run.{ran_of, done_run, run_leaves}
@@ -30,7 +29,7 @@ config_in b = config_of (roms_in b.beside) (machine_of b.image) b.beside
 
 module _ (b : Buffers) (budget stop : ℕ) (number : run_number b budget stop ≡ 0) where
   -- FROM A STATE WHOSE STEP MEETS TWO MATCHES, with some budget: done, no step, every byte as it was
-  pub run_met : 0 < budget → halts_later b 0 ≡ true → Below 256 b.image → run_leaves b budget stop ≡ left_of (Done 0 TwoMatches) b
+  pub run_met : 0 < budget → halts_later b 0 ≡ true → Below 256 b.image → run_leaves b budget stop ≡ left_of (done_with 0 TwoMatches) b
   run_met some meets small =
       let F = forward (roms_in b.beside) in
       let n = slots_of b.beside.journal in
@@ -42,7 +41,7 @@ module _ (b : Buffers) (budget stop : ℕ) (number : run_number b budget stop �
   abbrev steps : ℕ
   steps = steps_of (run_leaves b budget stop).answer
 
-  done_just : done_run b (steps_of (done_run b budget stop).answer) 0 ≡ left_of (Done (steps_of (done_run b budget stop).answer) BudgetSpent) (done_run b budget stop).buffers
+  done_just : done_run b (steps_of (done_run b budget stop).answer) 0 ≡ left_of (done_with (steps_of (done_run b budget stop).answer) BudgetSpent) (done_run b budget stop).buffers
   unfolding done_run
   done_just =
       let F = forward (roms_in b.beside) in
@@ -57,10 +56,10 @@ module _ (b : Buffers) (budget stop : ℕ) (number : run_number b budget stop �
       (number_0 b steps 0).1 (t.0, (t.1.0, (t.1.1.0, (t.1.1.1.0, (t.1.1.1.1.0, (few, t.1.1.1.1.1.1))))))
 
   -- WHATEVER ENDED IT, a run leaves what a run with the budget of its steps and no stop leaves: image, RAM, paper, journal and index
-  pub run_steps_only : run_leaves b steps 0 ≡ left_of (Done steps BudgetSpent) (run_leaves b budget stop).buffers
+  pub run_steps_only : run_leaves b steps 0 ≡ left_of (done_with steps BudgetSpent) (run_leaves b budget stop).buffers
   run_steps_only =
       done_is b steps 0 just_number
-      ∙ subst (λ (l : Left). done_run b (steps_of l.answer) 0 ≡ left_of (Done (steps_of l.answer) BudgetSpent) l.buffers) (sym (done_is b budget stop number)) done_just
+      ∙ subst (λ (l : Left). done_run b (steps_of l.answer) 0 ≡ left_of (done_with (steps_of l.answer) BudgetSpent) l.buffers) (sym (done_is b budget stop number)) done_just
 
   -- what is lent is bytes
   module _ (image_are : Below 256 b.image) (execution_are : Below 256 b.beside.execution) (bootstrap_are : Below 256 b.beside.bootstrap)
@@ -80,7 +79,7 @@ module _ (b : Buffers) (budget stop : ℕ) (number : run_number b budget stop �
 
     -- A RUN FROM WHERE ONE STOPPED BEFORE TWO MATCHES stops there again, and changes nothing
     pub met_again : reason_of (run_leaves b budget stop).answer ≡ 3 → (more stop' : ℕ) → 0 < more → leb more 1000000 ≡ true →
-        run_leaves after more stop' ≡ left_of (Done 0 TwoMatches) after
+        run_leaves after more stop' ≡ left_of (done_with 0 TwoMatches) after
     met_again e more stop' some most =
         let kept = run_kept b budget stop number image_are execution_are bootstrap_are ram_are paper_are in
         let meets : halts_later after 0 ≡ true =

@@ -15,20 +15,20 @@ use Rattle.rules.specs.Rules.{bytes_keep, journal_keeps, state_keeps, machine_ke
 use Rattle.turn.specs.Buffers.{Buffers, beside_of, buffers_of}
 use Rattle.run.specs.Run.{Fits, RunIs, reason_of}
 use Rattle.run.specs.declared.Outcome.{Outcome}
-use Rattle.answer.specs.Lent.{index_fits}
+use Rattle.answer.specs.Lent.{index_fits, passed}
 use Rattle.answer.proofs.Passed.{allowed}
 use Rattle.accepted.proofs.Start.{lent_whole, ring_sound}
 use Rattle.accepted.specs.Left.{left_of}
 use Rattle.forward.specs.Run.{beside_test, image_test, reason_named, done_run}
 use Rattle.answer.specs.declared.Reason.{Reason}
 use Rattle.answer.specs.declared.Refusal.TheVariants.{Image, Range, Index}
-use Rattle.answer.specs.declared.Answer.TheVariants.{Done}
-use Rattle.answer.specs.declared.lent.Test.TheVariants.{Passed, Failed}
+use Rattle.std.specs.Prelude.{Err}
+use Rattle.answer.specs.Answer.{done_with}
 
 -- ---- what is lent
 
 -- what the tests leave is what the run asks for
-pub fits_run : (b : Buffers) {m : Machine} → beside_test b.beside ≡ Passed →
+pub fits_run : (b : Buffers) {m : Machine} → beside_test b.beside ≡ passed →
     keeps_rules b.image (length b.beside.paper) (length b.beside.journal) ≡ true →
     index_fits (length b.beside.ram) (length b.beside.index) ≡ true → m ≡ machine_of b.image → Fits b.beside m
 unfolding keeps_rules machine_keeps
@@ -59,26 +59,26 @@ fits_run b passed keeps framed is =
 -- ---- the image, the budget and the index
 
 module _ (b : Buffers) (budget : ℕ) where
-  pub bad_length : (length b.image ≡ 741 → ⊥) → image_test b budget ≡ Failed Image
+  pub bad_length : (length b.image ≡ 741 → ⊥) → image_test b budget ≡ Err Image
   unfolding image_test
   bad_length h = rw (ne_eqb (length b.image) 741 h)
 
   module _ (long : length b.image ≡ 741) where
-    pub bad_rules : keeps_rules b.image (length b.beside.paper) (length b.beside.journal) ≡ false → image_test b budget ≡ Failed Image
+    pub bad_rules : keeps_rules b.image (length b.beside.paper) (length b.beside.journal) ≡ false → image_test b budget ≡ Err Image
     unfolding image_test
     bad_rules e = rw (eq-eqb (length b.image) 741 long, e)
 
     module _ (keeps : keeps_rules b.image (length b.beside.paper) (length b.beside.journal) ≡ true) where
-      pub bad_budget : 1000000 < budget → image_test b budget ≡ Failed Range
+      pub bad_budget : 1000000 < budget → image_test b budget ≡ Err Range
       unfolding image_test
       bad_budget l = rw (eq-eqb (length b.image) 741 long, keeps, lt-leb budget 1000000 l)
 
       module _ (few : budget ≤ 1000000) where
-        pub bad_index : index_fits (length b.beside.ram) (length b.beside.index) ≡ false → image_test b budget ≡ Failed Index
+        pub bad_index : index_fits (length b.beside.ram) (length b.beside.index) ≡ false → image_test b budget ≡ Err Index
         unfolding image_test
         bad_index e = rw (eq-eqb (length b.image) 741 long, keeps, le-leb budget 1000000 few, e)
 
-        pub all_passed : index_fits (length b.beside.ram) (length b.beside.index) ≡ true → image_test b budget ≡ Passed
+        pub all_passed : index_fits (length b.beside.ram) (length b.beside.index) ≡ true → image_test b budget ≡ passed
         unfolding image_test
         all_passed e = rw (eq-eqb (length b.image) 741 long, keeps, le-leb budget 1000000 few, e)
 
@@ -87,6 +87,6 @@ module _ (b : Buffers) (budget : ℕ) where
 pub done_is : (b : Buffers) (budget stop : ℕ) {m : Machine} (o : Outcome) {reason : Reason} {image ram paper journal index : List ℕ} → m ≡ machine_of b.image →
     RunIs budget (not (eqb stop 0)) m b.beside o (beside_of b.beside.execution b.beside.bootstrap ram paper journal index) →
     image ≡ bytes_of o.machine → reason ≡ reason_named (reason_of o.why) →
-    left_of (Done o.steps reason) (buffers_of image b.beside.execution b.beside.bootstrap ram paper journal index) ≡ done_run b budget stop
+    left_of (done_with o.steps reason) (buffers_of image b.beside.execution b.beside.bootstrap ram paper journal index) ≡ done_run b budget stop
 unfolding done_run
 done_is b budget stop o is ran encoded told = rw (encoded, told, ← is, ← ran)

@@ -18,8 +18,7 @@ use Rattle.step.specs.World.{World}
 use Rattle.step.specs.Step.{raises_of}
 use Rattle.turn.specs.Buffers.{Buffers, roms_in}
 use Rattle.run.specs.Run.{forward, config_of}
-use Rattle.answer.specs.declared.Answer.TheVariants.{Done}
-use Rattle.answer.specs.Answer.{reason_number, reason_of, steps_of, packed_of}
+use Rattle.answer.specs.Answer.{reason_number, reason_of, steps_of, packed_of, done_with}
 use Rattle.accepted.specs.After.{world_from, buffers_after}
 use Rattle.accepted.specs.Left.{Left, left_of}
 use Rattle.forward.specs.Run.{reason_named, ran_of, done_run, run_leaves}
@@ -88,7 +87,7 @@ module _ (b : Buffers) (budget stop : ℕ) where
   -- of any run that keeps the laws of a run
   says_of : (r : Ran (forward (roms_in b.beside))) → budget ≤ 1000000 →
       Steps (forward (roms_in b.beside)) budget (not (eqb stop 0)) (world_from b) r →
-      RunSays b budget stop (left_of (Done r.taken (reason_named r.reason)) (buffers_after b.beside r.config.state r.config.side r.config.ring))
+      RunSays b budget stop (left_of (done_with r.taken (reason_named r.reason)) (buffers_after b.beside r.config.state r.config.side r.config.ring))
   says_of r most s =
       let g = r.config.ring in
       let mark : Journal = record { on_hand = g.hand; next_slot = g.next } in

@@ -9,11 +9,10 @@ use lib.Dec.{leb}
 use lib.ListN.{length}
 use Rattle.rules.specs.Rules.{good_image}
 use Rattle.answer.specs.declared.Refusal.TheVariants.{Ram, Rom, Paper, Journal, Image, Range, Index}
-use Rattle.answer.specs.declared.Answer.{Answer}
-use Rattle.answer.specs.declared.lent.Test.{Test}
-use Rattle.answer.specs.declared.lent.Test.TheVariants.{Passed, Failed}
-use Rattle.answer.specs.Answer.{number_of}
-use Rattle.answer.specs.Lent.{ram_fits, roms_fit, paper_fits, journal_fits, index_fits, lent_test, and_then}
+use Rattle.std.specs.Prelude.{Ok, Err}
+use Rattle.answer.specs.Answer.{number_of, Answer}
+use Rattle.std.specs.Result.{result_and}
+use Rattle.answer.specs.Lent.{ram_fits, roms_fit, paper_fits, journal_fits, index_fits, lent_test, Test, passed}
 use Rattle.answer.proofs.Rows.{Row, row, number_in, number_at, First, Rising, number_exact, zero_exact, number_other, number_most}
 use Rattle.turn.specs.Buffers.{Buffers}
 use Rattle.accepted.specs.Left.{Left, left_of, left_by, Unchanged}
@@ -23,8 +22,8 @@ use Rattle.forward.specs.Run.{image_test, run_test, done_run, run_leaves}
 
 abbrev test_of : (a b c d e f g : Bool) → Test
 test_of a b c d e f g =
-    and_then (cond a (cond b (cond c (cond d Passed (Failed Journal)) (Failed Paper)) (Failed Rom)) (Failed Ram))
-    (cond e (cond f (cond g Passed (Failed Index)) (Failed Range)) (Failed Image))
+    result_and (cond a (cond b (cond c (cond d passed (Err Journal)) (Err Paper)) (Err Rom)) (Err Ram))
+    (cond e (cond f (cond g passed (Err Index)) (Err Range)) (Err Image))
 
 abbrev rows_of : (a b c d e f g : Bool) → List Row
 rows_of a b c d e f g = row 1 a ∷ row 2 b ∷ row 3 c ∷ row 4 d ∷ row 5 e ∷ row 6 f ∷ row 10 g ∷ []
@@ -45,8 +44,8 @@ module _ (done : Left) (zeroed : number_of done.answer ≡ 0) (buffers : Buffers
 
 unchanged : (t : Test) (done : Left) (buffers : Buffers) → number_of done.answer ≡ 0 →
     let left = left_by t done buffers in (number_of left.answer ≡ 0 → ⊥) → Unchanged left buffers
-unchanged Passed done buffers zeroed h = absurd (h zeroed)
-unchanged (Failed refusal) done buffers zeroed h = record { same = refl; no_steps = refl; no_reason = refl }
+unchanged (Ok _) done buffers zeroed h = absurd (h zeroed)
+unchanged (Err refusal) done buffers zeroed h = record { same = refl; no_steps = refl; no_reason = refl }
 
 -- ---- the call
 
@@ -142,16 +141,16 @@ module _ (buffers : Buffers) (budget stop : ℕ) where
   unfolding run_leaves
   refused_same h = unchanged (run_test buffers budget) done buffers done_zero h
 
-  passed : run_number ≡ 0 → run_test buffers budget ≡ Passed
+  tests_passed : run_number ≡ 0 → run_test buffers budget ≡ passed
   unfolding lent_test image_test
-  passed e =
+  tests_passed e =
       let h = number_0.0 e in
       rw (h.0, h.1.0, h.1.1.0, h.1.1.1.0, h.1.1.1.1.0, h.1.1.1.1.1.0, h.1.1.1.1.1.1)
 
   -- what is not refused is run
   pub done_is : run_number ≡ 0 → left ≡ done
   unfolding run_leaves
-  done_is e = ap (λ (t : Test). left_by t done buffers) (passed e)
+  done_is e = ap (λ (t : Test). left_by t done buffers) (tests_passed e)
 
   -- what two calls answer and leave that both keep the contract is the same
   pub one_answer : {r₁ r₂ : Answer} {after₁ after₂ : Buffers} → left_of r₁ after₁ ≡ left → left_of r₂ after₂ ≡ left → (r₁ ≡ r₂) × (after₁ ≡ after₂)

@@ -1,19 +1,18 @@
 -- Document 01, "Run", with its refusals: what the call answers, and every byte that it leaves in what is lent.
-use Rattle.std.specs.Prelude.{ℕ, cond, not, eqb, leb, length}
+use Rattle.std.specs.Prelude.{ℕ, cond, not, eqb, leb, length, Err}
 use Rattle.ring.specs.Run.{Why, Ran, spent, excepted, halted}
 use Rattle.state.specs.Layout.{machine_of}
 use Rattle.rules.specs.Rules.{good_image}
 use Rattle.turn.specs.Buffers.{Beside, Buffers, roms_in}
 use Rattle.run.specs.Run.{forward, run_of}
-use Rattle.answer.specs.Lent.{index_fits, and_then, lent_test}
+use Rattle.std.specs.Result.{result_and}
+use Rattle.answer.specs.Lent.{index_fits, lent_test, Test, passed}
 use Rattle.accepted.specs.After.{buffers_after}
 use Rattle.accepted.specs.Left.{Left, left_of, left_by}
 use Rattle.answer.specs.declared.Reason.{Reason}
 use Rattle.answer.specs.declared.Reason.TheVariants.{BudgetSpent, Exception, TwoMatches}
 use Rattle.answer.specs.declared.Refusal.TheVariants.{Image, Range, Index}
-use Rattle.answer.specs.declared.Answer.TheVariants.{Done}
-use Rattle.answer.specs.declared.lent.Test.{Test}
-use Rattle.answer.specs.declared.lent.Test.TheVariants.{Passed, Failed}
+use Rattle.answer.specs.Answer.{done_with}
 
 -- ---- the refusals
 
@@ -25,11 +24,11 @@ beside_test b = lent_test (length b.execution) (length b.bootstrap) (length b.ra
 unfoldable pub image_test : Buffers → ℕ → Test
 image_test b budget =
     cond (good_image b.image (length b.beside.paper) (length b.beside.journal))
-    (cond (leb budget 1000000) (cond (index_fits (length b.beside.ram) (length b.beside.index)) Passed (Failed Index)) (Failed Range))
-    (Failed Image)
+    (cond (leb budget 1000000) (cond (index_fits (length b.beside.ram) (length b.beside.index)) passed (Err Index)) (Err Range))
+    (Err Image)
 
 abbrev pub run_test : Buffers → ℕ → Test
-run_test b budget = and_then (beside_test b.beside) (image_test b budget)
+run_test b budget = result_and (beside_test b.beside) (image_test b budget)
 
 -- ---- what is left
 
@@ -46,7 +45,7 @@ ran_of b budget stop = run_of budget (not (eqb stop 0)) (machine_of b.image) b.b
 unfoldable pub done_run : Buffers → ℕ → ℕ → Left
 done_run b budget stop =
     let ran = ran_of b budget stop in
-    left_of (Done ran.taken (reason_named ran.reason)) (buffers_after b.beside ran.config.state ran.config.side ran.config.ring)
+    left_of (done_with ran.taken (reason_named ran.reason)) (buffers_after b.beside ran.config.state ran.config.side ran.config.ring)
 
 -- THE CALL
 unfoldable pub run_leaves : Buffers → ℕ → ℕ → Left

@@ -5,11 +5,12 @@ ghost use Rattle.std.specs.Prelude.{◌≡◌, length};
 ghost use Rattle.run.specs.Run.{Fits};
 ghost use Rattle.state.specs.Layout.{machine_of};
 ghost use Rattle.turn.specs.Buffers.{beside_of, buffers_of};
+ghost use Rattle.answer.specs.Lent.{passed};
 ghost use Rattle.accepted.specs.Left.{left_of};
 ghost use Rattle.forward.specs.Run.{beside_test, reason_named, done_run, run_leaves, image_leaves};
 
-use answer::lent::{Test, index_fits, lent_test};
-use answer::{Answer, Reason, Refusal};
+use answer::lent::{index_fits, lent_test};
+use answer::{Answer, Done, Reason, Refusal};
 use look::Stop;
 use rules::judged;
 use state::IMAGE;
@@ -58,10 +59,11 @@ fn done(
         budget,
         stop != 0,
     );
-    let after = ran.machine;
-    let why = ran.why;
-    encode(after, image);
-    Answer::Done(ran.steps, reason(why))
+    encode(ran.machine, image);
+    Ok(Done {
+        steps: ran.steps,
+        reason: reason(ran.why),
+    })
 }
 
 // Rows 5, 6 and 10, of lengths that are allowed.
@@ -76,24 +78,24 @@ fn with_image(
     budget: u64,
     stop: u64,
 ) -> Answer
-    requires { beside_test (beside_of execution.now bootstrap.now ram.old paper.old journal.old index.old) ≡ Test.Passed }
+    requires { beside_test (beside_of execution.now bootstrap.now ram.old paper.old journal.old index.old) ≡ passed }
     ensures { left_of result (buffers_of image.new execution.now bootstrap.now ram.new paper.new journal.new index.new)
         ≡ image_leaves
         (buffers_of image.old execution.now bootstrap.now ram.old paper.old journal.old index.old)
         budget stop }
 {
     if image.len() != IMAGE {
-        return Answer::Refused(Refusal::Image);
+        return Err(Refusal::Image);
     }
     let verdict = judged(image, paper.len(), journal.len());
     if !verdict.keeps {
-        return Answer::Refused(Refusal::Image);
+        return Err(Refusal::Image);
     }
     if 1_000_000 < budget {
-        return Answer::Refused(Refusal::Range);
+        return Err(Refusal::Range);
     }
     if !index_fits(ram.len(), index.len()) {
-        return Answer::Refused(Refusal::Index);
+        return Err(Refusal::Index);
     }
     let machine = verdict.machine;
     done(
@@ -126,17 +128,14 @@ pub fn run(
         (buffers_of image.old execution.now bootstrap.now ram.old paper.old journal.old index.old)
         budget stop }
 {
-    let test = lent_test(
+    lent_test(
         execution.len(),
         bootstrap.len(),
         ram.len(),
         paper.len(),
         journal.len(),
-    );
-    match test {
-        Test::Failed(refusal) => Answer::Refused(refusal),
-        Test::Passed => with_image(
-            image, execution, bootstrap, ram, paper, journal, index, budget, stop,
-        ),
-    }
+    )?;
+    with_image(
+        image, execution, bootstrap, ram, paper, journal, index, budget, stop,
+    )
 }

@@ -20,22 +20,21 @@ use Rattle.step.specs.World.{world_in}
 use Rattle.turn.specs.Buffers.{Beside, Buffers}
 use Rattle.back.specs.Back as back
 use Rattle.back.specs.Back.{no_roms, view_in, asked_of}
+use Rattle.back.specs.declared.Fault.{Fault}
+use Rattle.back.specs.declared.Fault.TheVariants.{TooFar, Bad}
 use Rattle.back.proofs.Answers.{is_done}
 use Rattle.back.proofs.Cored.{core_laws}
 use Rattle.seek.specs.OnHand.{records_of}
-use Rattle.seek.specs.Latest.{Write, Answers, scan}
+use Rattle.seek.specs.Latest.{Write, Altered, Answers, scan}
 use Rattle.seek.specs.Seek.{has_word, writes_of, last_change_of}
-use Rattle.seek.specs.declared.Sought.{Sought}
-use Rattle.seek.specs.declared.Sought.TheVariants.{At, Nothing}
+use Rattle.seek.specs.declared.Change.{Change}
 use Rattle.seek.proofs.Latest.{scan_answers}
-use Rattle.answer.specs.Lent.{index_fits, and_then}
+use Rattle.std.specs.Result.{result_and}
+use Rattle.answer.specs.Lent.{index_fits, Test, passed}
 use Rattle.answer.specs.declared.Refusal.{Refusal}
 use Rattle.answer.specs.declared.Refusal.TheVariants.{BadRecord, Index, Word, Room}
-use Rattle.answer.specs.declared.Answer.{Answer}
-use Rattle.answer.specs.declared.Answer.TheVariants.{Refused}
-use Rattle.answer.specs.declared.lent.Test.{Test}
-use Rattle.answer.specs.declared.lent.Test.TheVariants.{Passed, Failed}
-use Rattle.answer.proofs.Passed.{passes}
+use Rattle.std.specs.Prelude.{Option, Some, None, Ok, Err, is_ok}
+use Rattle.answer.specs.Answer.{Answer}
 use Rattle.backward.specs.Back.{beside_back_test, rule_test}
 use Rattle.backward.proofs.Backing.{buffers_allowed, judged_is}
 use Rattle.lastwrite.specs.LastWrite.{records_fit, word_fits, rest_test, asked_test, last_write_test, place_of, found_by, found_in, time_in, answer_words, answer_by, bytes_by, LastWriteIs, Fits, Counted, Leaves, TriedIs, RuledIs}
@@ -82,7 +81,7 @@ module _ (m : Machine) (b : Beside) where
       ap (λ (far : Bool). cond far too_far (cond core done bad_record)) (le-ltb hand hand (omega arith))
       ∙ ap (λ (fit : Bool). cond fit done bad_record) (sym (core_fits M n b.journal next (core_laws no_roms) (world_in m b.ram b.paper) hand))
 
-  pub never_far : too_far ≡ said → ⊥
+  never_far : too_far ≡ said → ⊥
   never_far e = go (records_fit m b) (e ∙ asked_all)
     where
       go : (fit : Bool) → too_far ≡ cond fit done bad_record → ⊥
@@ -104,21 +103,26 @@ module _ (m : Machine) (b : Beside) where
       go false e = absurd (true≢false (ap is_done e))
 
   module _ (address room : ℕ) where
-    pub asked_bad : bad_record ≡ said → Failed BadRecord ≡ asked_test m b address room
+    asked_bad : bad_record ≡ said → Err BadRecord ≡ asked_test m b address room
     unfolding asked_test
     asked_bad e = rw (records_bad e)
+
+    -- by the fault that was found
+    pub asked_fault : (fault : Fault) → back.how_of (Err fault) ≡ said → Err (back.refusal_of fault) ≡ asked_test m b address room
+    asked_fault TooFar e = absurd (never_far e)
+    asked_fault Bad e = asked_bad e
 
     pub asked_rest : done ≡ said → rest_test (length b.ram) (length b.index) address room ≡ asked_test m b address room
     unfolding asked_test
     asked_rest e = rw (records_good e)
 
     -- what it says that the tests were passed
-    pub asked_says : asked_test m b address room ≡ Passed →
+    pub asked_says : asked_test m b address room ≡ passed →
         (records_fit m b ≡ true) × (index_fits (length b.ram) (length b.index) ≡ true) × (word_fits (length b.ram) address ≡ true) × (eqb room 16 ≡ true)
     unfolding asked_test rest_test
-    asked_says e = go (records_fit m b) (index_fits (length b.ram) (length b.index)) (word_fits (length b.ram) address) (eqb room 16) (ap passes e)
+    asked_says e = go (records_fit m b) (index_fits (length b.ram) (length b.index)) (word_fits (length b.ram) address) (eqb room 16) (ap is_ok e)
       where
-        go : (x y z w : Bool) → passes (cond x (cond y (cond z (cond w Passed (Failed Room)) (Failed Word)) (Failed Index)) (Failed BadRecord)) ≡ true →
+        go : (x y z w : Bool) → is_ok (cond x (cond y (cond z (cond w passed (Err Room)) (Err Word)) (Err Index)) (Err BadRecord)) ≡ true →
             (x ≡ true) × (y ≡ true) × (z ≡ true) × (w ≡ true)
         go true true true true e = (refl, refl, refl, refl)
         go true true true false e = absurd (true≢false (sym e))
@@ -127,17 +131,17 @@ module _ (m : Machine) (b : Beside) where
         go false y z w e = absurd (true≢false (sym e))
 
     -- the place is a number of 32 bits, and four words have room
-    pub asked_near : Fits b m → asked_test m b address room ≡ Passed → (ram_base ≤ address) × (address < ram_base + 2 ^ 32)
+    pub asked_near : Fits b m → asked_test m b address room ≡ passed → (ram_base ≤ address) × (address < ram_base + 2 ^ 32)
     asked_near fits e =
         let w = word_says (length b.ram) address (asked_says e).2 in
         (w.0, omega (arith, w.0, w.1, fits.few_frames))
 
-    pub asked_room : asked_test m b address room ≡ Passed → room ≡ 16
+    pub asked_room : asked_test m b address room ≡ passed → room ≡ 16
     asked_room e = eqb-true room 16 (asked_says e).3
 
 -- ---- the tests before
 
-pub fits_is : (b : Buffers) {m : Machine} → beside_back_test b.beside ≡ Passed →
+pub fits_is : (b : Buffers) {m : Machine} → beside_back_test b.beside ≡ passed →
     keeps_rules b.image (length b.beside.paper) (length b.beside.journal) ≡ true → m ≡ machine_of b.image → Fits b.beside m
 fits_is b passed keeps is =
     let ram = length b.beside.ram in
@@ -151,10 +155,13 @@ fits_is b passed keeps is =
 
 -- ---- what is found
 
-counted : (place word : ℕ) (steps : List (List Write)) (r : Sought) → Answers place steps word r → Counted r
-counted place word steps Nothing h = tt
-counted place word steps (At zero old new) h = absurd h
-counted place word steps (At (suc k) old new) h = omega arith
+counted : (place word : ℕ) (steps : List (List Write)) (r : Option Change) → Answers place steps word r → Counted r
+counted place word steps None h = tt
+counted place word steps (Some c) h = go c.step c.old c.new h
+  where
+    go : (step old new : ℕ) → Altered place steps word step old new → 1 ≤ step
+    go zero old new h = absurd h
+    go (suc k) old new h = omega arith
 
 pub found_counted : (m : Machine) (ram journal : List ℕ) (address : ℕ) → Counted (found_by m ram journal address)
 unfolding last_change_of
@@ -163,26 +170,26 @@ found_counted m ram journal address =
     let steps = map writes_of (records_of journal m.journal.on_hand m.journal.next_slot) in
     go place steps (has_word ram place)
   where
-    go : (place : ℕ) (steps : List (List Write)) (has : Bool) → Counted (cond has (scan place (load_at 4 ram place) 0 steps) Nothing)
+    go : (place : ℕ) (steps : List (List Write)) (has : Bool) → Counted (cond has (scan place (load_at 4 ram place) 0 steps) None)
     go place steps true =
         let word = load_at 4 ram place in
         counted place word steps (scan place word 0 steps) (scan_answers place word steps)
     go place steps false = tt
 
-pub counted_at : {found : Sought} {k old new : ℕ} → found ≡ At k old new → Counted found → 1 ≤ k
+pub counted_at : {found : Option Change} {c : Change} → found ≡ Some c → Counted found → 1 ≤ c.step
 counted_at e h = subst Counted e h
 
-pub words_at : (time k old new clock : ℕ) → clock ≡ slot_back whole time (k - 1) →
-    clock / 2 ^ 32 ∷ clock % 2 ^ 32 ∷ old ∷ new ∷ [] ≡ answer_words time (At k old new)
-words_at time k old new clock e = ap (λ (c : ℕ). c / 2 ^ 32 ∷ c % 2 ^ 32 ∷ old ∷ new ∷ []) e
+pub words_at : (time : ℕ) (c : Change) (clock : ℕ) → clock ≡ slot_back whole time (c.step - 1) →
+    clock / 2 ^ 32 ∷ clock % 2 ^ 32 ∷ c.old ∷ c.new ∷ [] ≡ answer_words time (Some c)
+words_at time c clock e = ap (λ (x : ℕ). x / 2 ^ 32 ∷ x % 2 ^ 32 ∷ c.old ∷ c.new ∷ []) e
 
-pub words_long : (time : ℕ) (found : Sought) → length (flat word_bytes (answer_words time found)) ≡ 16
-words_long time Nothing = refl
-words_long time (At k old new) = refl
+pub words_long : (time : ℕ) (found : Option Change) → length (flat word_bytes (answer_words time found)) ≡ 16
+words_long time None = refl
+words_long time (Some c) = refl
 
 -- ---- what is left
 
-module _ {t t' : Test} {time time' : ℕ} {found found' : Sought} {before after : List ℕ} {r : Answer} where
+module _ {t t' : Test} {time time' : ℕ} {found found' : Option Change} {before after : List ℕ} {r : Answer} where
   -- the same by equal tests, clocks and findings
   pub leaves_same : t ≡ t' → time ≡ time' → found ≡ found' → Leaves t time found before r after → Leaves t' time' found' before r after
   leaves_same p q s l =
@@ -191,7 +198,7 @@ module _ {t t' : Test} {time time' : ℕ} {found found' : Sought} {before after 
         bytes_is = l.bytes_is ∙ (λ i. bytes_by (p i) (q i) (s i) before);
       }
 
-pub leaves_all : {t : Test} {refusal : Refusal} (time : ℕ) (found : Sought) (before : List ℕ) → t ≡ Failed refusal → Leaves t time found before (Refused refusal) before
+pub leaves_all : {t : Test} {refusal : Refusal} (time : ℕ) (found : Option Change) (before : List ℕ) → t ≡ Err refusal → Leaves t time found before (Err refusal) before
 leaves_all time found before e =
     record {
       answer_is = sym (ap (λ (x : Test). answer_by x found) e);
@@ -203,14 +210,14 @@ module _ (b : Buffers) (address : ℕ) (before : List ℕ) where
   asked = asked_test (machine_of b.image) b.beside address (length before)
 
   -- by row 5
-  pub rules_failed : {refusal : Refusal} → rule_test b ≡ Failed refusal → RuledIs b address before (Refused refusal) before
-  rules_failed e = leaves_all (time_in b) (found_in b address) before (ap (λ (t : Test). and_then t asked) e)
+  pub rules_failed : {refusal : Refusal} → rule_test b ≡ Err refusal → RuledIs b address before (Err refusal) before
+  rules_failed e = leaves_all (time_in b) (found_in b address) before (ap (λ (t : Test). result_and t asked) e)
 
-  pub rules_passed : {m : Machine} {r : Answer} {after : List ℕ} → rule_test b ≡ Passed → m ≡ machine_of b.image →
+  pub rules_passed : {m : Machine} {r : Answer} {after : List ℕ} → rule_test b ≡ passed → m ≡ machine_of b.image →
       TriedIs m b.beside address before r after → RuledIs b address before r after
   rules_passed e is l =
       leaves_same
-      (ap (λ (m : Machine). asked_test m b.beside address (length before)) is ∙ sym (ap (λ (t : Test). and_then t asked) e))
+      (ap (λ (m : Machine). asked_test m b.beside address (length before)) is ∙ sym (ap (λ (t : Test). result_and t asked) e))
       (ap (λ (m : Machine). time_of m.board.clock) is)
       (ap (λ (m : Machine). found_by m b.beside.ram b.beside.journal address) is)
       l
@@ -220,8 +227,8 @@ module _ (b : Buffers) (address : ℕ) (before : List ℕ) where
   call_is l = record { answer_is = l.answer_is; bytes_is = l.bytes_is }
 
   -- by rows 1, 3 and 4
-  pub buffers_failed : {refusal : Refusal} → beside_back_test b.beside ≡ Failed refusal → LastWriteIs b address before (Refused refusal) before
-  buffers_failed e = call_is (leaves_all (time_in b) (found_in b address) before (ap (λ (t : Test). and_then (and_then t (rule_test b)) asked) e))
+  pub buffers_failed : {refusal : Refusal} → beside_back_test b.beside ≡ Err refusal → LastWriteIs b address before (Err refusal) before
+  buffers_failed e = call_is (leaves_all (time_in b) (found_in b address) before (ap (λ (t : Test). result_and (result_and t (rule_test b)) asked) e))
 
-  pub buffers_passed : {r : Answer} {after : List ℕ} → beside_back_test b.beside ≡ Passed → RuledIs b address before r after → LastWriteIs b address before r after
-  buffers_passed e l = call_is (leaves_same (sym (ap (λ (t : Test). and_then (and_then t (rule_test b)) asked) e)) refl refl l)
+  pub buffers_passed : {r : Answer} {after : List ℕ} → beside_back_test b.beside ≡ passed → RuledIs b address before r after → LastWriteIs b address before r after
+  buffers_passed e l = call_is (leaves_same (sym (ap (λ (t : Test). result_and (result_and t (rule_test b)) asked) e)) refl refl l)

@@ -9,18 +9,17 @@ use Rattle.state.specs.declared.machine.Machine.{Machine}
 use Rattle.rules.specs.Rules.{good_image}
 use Rattle.turn.specs.Buffers.{Buffers}
 use Rattle.seek.specs.OnHand.{fits_in, held_of, records_of}
-use Rattle.seek.specs.Latest.{Write, Answers, scan}
+use Rattle.seek.specs.Latest.{Write, Answers, scan, Altered}
 use Rattle.seek.specs.Seek.{has_word, writes_of, last_change_of}
-use Rattle.seek.specs.declared.Sought.{Sought}
-use Rattle.seek.specs.declared.Sought.TheVariants.{At, Nothing}
+use Rattle.seek.specs.declared.Change.{Change}
 use Rattle.seek.proofs.OnHand.{held_long}
 use Rattle.seek.proofs.Latest.{scan_answers}
-use Rattle.answer.specs.Answer.{number_of, reason_of, steps_of, packed_of}
-use Rattle.answer.specs.Lent.{ram_fits, paper_fits, journal_fits, index_fits, and_then}
+use Rattle.answer.specs.Answer.{number_of, reason_of, steps_of, packed_of, Answer}
+use Rattle.std.specs.Result.{result_and}
+use Rattle.answer.specs.Lent as lent
+use Rattle.answer.specs.Lent.{ram_fits, paper_fits, journal_fits, index_fits, Test}
 use Rattle.answer.specs.declared.Refusal.TheVariants.{Ram, Paper, Journal, Image, BadRecord, Index, Word, Room}
-use Rattle.answer.specs.declared.Answer.{Answer}
-use Rattle.answer.specs.declared.lent.Test.{Test}
-use Rattle.answer.specs.declared.lent.Test.TheVariants.{Passed, Failed}
+use Rattle.std.specs.Prelude.{Option, Some, None, Ok, Err}
 use Rattle.answer.proofs.Rows.{Row, row, number_in, number_at, First, Rising, number_exact, zero_exact, number_other, number_most}
 use Rattle.accepted.proofs.Start.{few_slots, ring_sound, image_mark}
 use Rattle.backward.specs.Back.{buffers_test, rule_test}
@@ -30,17 +29,17 @@ use Rattle.lastwrite.specs.LastWrite.{records_fit, word_fits, rest_test, asked_t
 
 abbrev test_of : (a b c d e f g h : Bool) → Test
 test_of a b c d e f g h =
-    and_then (and_then (cond a (cond b (cond c Passed (Failed Journal)) (Failed Paper)) (Failed Ram)) (cond d Passed (Failed Image)))
-    (cond e (cond f (cond g (cond h Passed (Failed Room)) (Failed Word)) (Failed Index)) (Failed BadRecord))
+    result_and (result_and (cond a (cond b (cond c lent.passed (Err Journal)) (Err Paper)) (Err Ram)) (cond d lent.passed (Err Image)))
+    (cond e (cond f (cond g (cond h lent.passed (Err Room)) (Err Word)) (Err Index)) (Err BadRecord))
 
 abbrev rows_of : (a b c d e f g h : Bool) → List Row
 rows_of a b c d e f g h = row 1 a ∷ row 3 b ∷ row 4 c ∷ row 5 d ∷ row 8 e ∷ row 10 f ∷ row 11 g ∷ row 12 h ∷ []
 
-done_number : (found : Sought) → number_of (done_of found) ≡ 0
-done_number Nothing = refl
-done_number (At k old new) = refl
+done_number : (found : Option Change) → number_of (done_of found) ≡ 0
+done_number None = refl
+done_number (Some c) = refl
 
-by_rows : (found : Sought) (a b c d e f g h : Bool) → number_of (answer_by (test_of a b c d e f g h) found) ≡ number_in (rows_of a b c d e f g h)
+by_rows : (found : Option Change) (a b c d e f g h : Bool) → number_of (answer_by (test_of a b c d e f g h) found) ≡ number_in (rows_of a b c d e f g h)
 by_rows found true true true true true true true true = done_number found
 by_rows found true true true true true true true false = refl
 by_rows found true true true true true true false h = refl
@@ -54,10 +53,13 @@ by_rows found false b c d e f g h = refl
 -- ---- what is found
 
 -- a step that is found is one of those on hand
-within : (place word : ℕ) (steps : List (List Write)) (r : Sought) → Answers place steps word r → steps_of (done_of r) ≤ length steps
-within place word steps Nothing h = omega arith
-within place word steps (At zero old new) h = absurd h
-within place word steps (At (suc k) old new) h = h.within
+within : (place word : ℕ) (steps : List (List Write)) (r : Option Change) → Answers place steps word r → steps_of (done_of r) ≤ length steps
+within place word steps None h = omega arith
+within place word steps (Some c) h = go c.step c.old c.new h
+  where
+    go : (step old new : ℕ) → Altered place steps word step old new → step ≤ length steps
+    go zero old new h = absurd h
+    go (suc k) old new h = h.within
 
 records_most : (journal : List ℕ) (hand next : ℕ) → length (map writes_of (records_of journal hand next)) ≤ hand
 records_most journal hand next = go (fits_in journal hand next)
@@ -70,21 +72,21 @@ change_most : (ram journal : List ℕ) (hand next place : ℕ) → steps_of (don
 unfolding last_change_of
 change_most ram journal hand next place = go (has_word ram place)
   where
-    go : (has : Bool) → steps_of (done_of (cond has (scan place (load_at 4 ram place) 0 (map writes_of (records_of journal hand next))) Nothing)) ≤ hand
+    go : (has : Bool) → steps_of (done_of (cond has (scan place (load_at 4 ram place) 0 (map writes_of (records_of journal hand next))) None)) ≤ hand
     go true =
         let word = load_at 4 ram place in
         let steps = map writes_of (records_of journal hand next) in
         omega (arith, within place word steps (scan place word 0 steps) (scan_answers place word steps), records_most journal hand next)
     go false = omega arith
 
-no_reason : (found : Sought) → reason_of (done_of found) ≡ 0
-no_reason Nothing = refl
-no_reason (At k old new) = refl
+no_reason : (found : Option Change) → reason_of (done_of found) ≡ 0
+no_reason None = refl
+no_reason (Some c) = refl
 
 -- ---- the call
 
 module _ (b : Buffers) (address : ℕ) where
-  abbrev found : Sought
+  abbrev found : Option Change
   found = found_in b address
 
   abbrev machine : Machine
@@ -183,7 +185,7 @@ module _ (b : Buffers) (address : ℕ) where
     no_other = rw says (number_most rows 12 (omega arith, (omega arith, (omega arith, (omega arith, (omega arith, (omega arith, (omega arith, (omega arith, tt)))))))))
 
     -- what is not refused passed every test
-    pub passed : last_write_number ≡ 0 → last_write_test b address room ≡ Passed
+    pub passed : last_write_number ≡ 0 → last_write_test b address room ≡ lent.passed
     unfolding buffers_test rule_test asked_test rest_test
     passed e =
         let t = number_0.0 e in
@@ -204,15 +206,15 @@ module _ (b : Buffers) (address : ℕ) where
     never_a_reason = go (last_write_test b address room)
       where
         go : (t : Test) → reason_of (answer_by t found) ≡ 0
-        go Passed = no_reason found
-        go (Failed refusal) = refl
+        go (Ok _) = no_reason found
+        go (Err refusal) = refl
 
     refused_none : (last_write_number ≡ 0 → ⊥) → steps_of (last_write_answer b address room) ≡ 0
     refused_none h = go (last_write_test b address room) h
       where
         go : (t : Test) → (number_of (answer_by t found) ≡ 0 → ⊥) → steps_of (answer_by t found) ≡ 0
-        go Passed h = absurd (h (done_number found))
-        go (Failed refusal) h = refl
+        go (Ok _) h = absurd (h (done_number found))
+        go (Err refusal) h = refl
 
     -- done or refused, the answer fits in the 64 bits that it is packed in
     pub packed_fits : packed_of (last_write_answer b address room) < 2 ^ 64
@@ -243,19 +245,19 @@ module _ (b : Buffers) (address : ℕ) where
       where
         go : (t : Test) → (number_of (answer_by t found) ≡ 0 → ⊥) →
             (bytes_by t (time_in b) found before ≡ before) × (steps_of (answer_by t found) ≡ 0) × (reason_of (answer_by t found) ≡ 0)
-        go Passed h = absurd (h (done_number found))
-        go (Failed refusal) h = (refl, refl, refl)
+        go (Ok _) h = absurd (h (done_number found))
+        go (Err refusal) h = (refl, refl, refl)
 
     -- a done one leaves four words, whatever was there
     pub done_bytes : number ≡ 0 → after ≡ flat word_bytes (answer_words (time_in b) found)
     done_bytes e = ap (λ (t : Test). bytes_by t (time_in b) found before) (passed (length before) e)
 
     -- none on hand: 0 steps, no reason, and 16 bytes of 0
-    pub none_is_zeros : number ≡ 0 → found ≡ Nothing → (steps_of answer ≡ 0) × (reason_of answer ≡ 0) × (after ≡ replicate 16 0)
+    pub none_is_zeros : number ≡ 0 → found ≡ None → (steps_of answer ≡ 0) × (reason_of answer ≡ 0) × (after ≡ replicate 16 0)
     none_is_zeros e none = (
-      ap steps_of (done_answer (length before) e) ∙ ap (λ (x : Sought). steps_of (done_of x)) none,
-      ap reason_of (done_answer (length before) e) ∙ ap (λ (x : Sought). reason_of (done_of x)) none,
-      done_bytes e ∙ ap (λ (x : Sought). flat word_bytes (answer_words (time_in b) x)) none,
+      ap steps_of (done_answer (length before) e) ∙ ap (λ (x : Option Change). steps_of (done_of x)) none,
+      ap reason_of (done_answer (length before) e) ∙ ap (λ (x : Option Change). reason_of (done_of x)) none,
+      done_bytes e ∙ ap (λ (x : Option Change). flat word_bytes (answer_words (time_in b) x)) none,
     )
 
     -- what two calls answer and leave that both keep the contract is the same

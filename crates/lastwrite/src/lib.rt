@@ -4,15 +4,16 @@
 ghost use Rattle.std.specs.Prelude.{◌≡◌, ◌+◌, ◌^◌, ◌<◌, ◌≤◌, length};
 ghost use Rattle.board.specs.Places.{ram_base};
 ghost use Rattle.turn.specs.Buffers.{beside_back, buffers_back};
+ghost use Rattle.answer.specs.Lent.{passed};
 ghost use Rattle.backward.specs.Back.{beside_back_test};
 ghost use Rattle.lastwrite.specs.LastWrite.{word_fits, rest_test, asked_test, place_of, found_by, answer_words, done_of, LastWriteIs, Fits, Counted, Leaves, TriedIs, RuledIs};
 
-use answer::lent::{Test, index_fits};
-use answer::{Answer, Reason, Refusal};
+use answer::lent::index_fits;
+use answer::{Answer, Done, Reason, Refusal};
 use backward::buffers_test;
 use clock::time;
 use rules::judged;
-use seek::{Sought, last_change};
+use seek::{Change, last_change};
 use state::IMAGE;
 use state::machine::Machine;
 use word::big::put_words;
@@ -32,19 +33,20 @@ fn word_fits(ram: usize, address: u64) -> bool
 }
 
 // Rows 10, 11 and 12.
-fn rest_test(ram: usize, index: usize, address: u64, room: usize) -> Test
+#[tactic(auto, unfolding(crate::specs::LastWrite::rest_test))]
+fn rest_test(ram: usize, index: usize, address: u64, room: usize) -> Result<(), Refusal>
     ensures { result ≡ rest_test ram index address room }
 {
     if !index_fits(ram, index) {
-        return Test::Failed(Refusal::Index);
+        return Err(Refusal::Index);
     }
     if !word_fits(ram, address) {
-        return Test::Failed(Refusal::Word);
+        return Err(Refusal::Word);
     }
     if room != ROOM {
-        return Test::Failed(Refusal::Room);
+        return Err(Refusal::Room);
     }
-    Test::Passed
+    Ok(())
 }
 
 // Row 8 for every record on hand, then the others. All that is on hand is never too far.
@@ -56,51 +58,51 @@ fn asked_test(
     index: &[u8],
     address: u64,
     room: usize,
-) -> Test
+) -> Result<(), Refusal>
     requires { Fits (beside_back ram.now paper.now journal.now index.now) machine }
     ensures { result ≡ asked_test machine (beside_back ram.now paper.now journal.now index.now) address room }
 {
-    let mark = machine.journal;
-    let hand = mark.on_hand as u64;
-    match back::asked(machine, ram.len(), paper.len(), journal, hand) {
-        back::Answer::TooFar => Test::Failed(Refusal::TooFar),
-        back::Answer::Bad => Test::Failed(Refusal::BadRecord),
-        back::Answer::Done => rest_test(ram.len(), index.len(), address, room),
-    }
+    let hand = machine.journal.on_hand as u64;
+    back::asked(machine, ram.len(), paper.len(), journal, hand)?;
+    rest_test(ram.len(), index.len(), address, room)
 }
 
 // The four words, of the image's clock.
-fn answer_words(time: u64, found: Sought) -> [u32; 4]
+fn answer_words(time: u64, found: Option<Change>) -> [u32; 4]
     requires { Counted found }
     ensures { result ≡ answer_words time found }
 {
     match found {
-        Sought::Nothing => [0, 0, 0, 0],
-        Sought::At(k, old, new) => {
-            let clock = std::num::wrapping_sub_u64(time, (k - 1) as u64);
+        None => [0, 0, 0, 0],
+        Some(change) => {
+            let clock = time.wrapping_sub((change.step - 1) as u64);
             [
                 (clock / 4294967296) as u32,
                 (clock % 4294967296) as u32,
-                old,
-                new,
+                change.old,
+                change.new,
             ]
         }
     }
 }
 
-fn done(found: Sought) -> Answer
+fn done(found: Option<Change>) -> Answer
     ensures { result ≡ done_of found }
 {
-    match found {
-        Sought::Nothing => Answer::Done(0, Reason::NoReason),
-        Sought::At(k, _, _) => Answer::Done(k, Reason::NoReason),
-    }
+    let steps = match found {
+        None => 0,
+        Some(change) => change.step,
+    };
+    Ok(Done {
+        steps,
+        reason: Reason::NoReason,
+    })
 }
 
-fn put_found(time: u64, found: Sought, answer: &mut [u8]) -> Answer
+fn put_found(time: u64, found: Option<Change>, answer: &mut [u8]) -> Answer
     requires counted { Counted found }
     requires answer_len { length answer.old ≡ 16 }
-    ensures { Leaves Test.Passed time found answer.old result answer.new }
+    ensures { Leaves passed time found answer.old result answer.new }
 {
     let words = answer_words(time, found);
     put_words(&words, answer, 0);
@@ -114,7 +116,7 @@ fn place_of(address: u64) -> u32
     (address - BASE) as u32
 }
 
-fn found_by(machine: Machine, ram: &[u8], journal: &[u8], address: u64) -> Sought
+fn found_by(machine: Machine, ram: &[u8], journal: &[u8], address: u64) -> Option<Change>
     requires { (ram_base ≤ address) × (address < ram_base + 2 ^ 32) }
     ensures { result ≡ found_by machine ram.now journal.now address }
 {
@@ -142,18 +144,12 @@ fn tried(
     ensures { TriedIs machine (beside_back ram.now paper.now journal.now index.now) address
         answer.old result answer.new }
 {
-    let test = asked_test(machine, ram, paper, journal, index, address, answer.len());
-    match test {
-        Test::Failed(refusal) => Answer::Refused(refusal),
-        Test::Passed => {
-            let board = machine.board;
-            put_found(
-                time(board.clock),
-                found_by(machine, ram, journal, address),
-                answer,
-            )
-        }
-    }
+    asked_test(machine, ram, paper, journal, index, address, answer.len())?;
+    put_found(
+        time(machine.board.clock),
+        found_by(machine, ram, journal, address),
+        answer,
+    )
 }
 
 // Row 5, of lengths that are allowed.
@@ -166,16 +162,16 @@ fn with_image(
     address: u64,
     answer: &mut [u8],
 ) -> Answer
-    requires { beside_back_test (beside_back ram.now paper.now journal.now index.now) ≡ Test.Passed }
+    requires { beside_back_test (beside_back ram.now paper.now journal.now index.now) ≡ passed }
     ensures { RuledIs (buffers_back image.now ram.now paper.now journal.now index.now) address
         answer.old result answer.new }
 {
     if image.len() != IMAGE {
-        return Answer::Refused(Refusal::Image);
+        return Err(Refusal::Image);
     }
     let verdict = judged(image, paper.len(), journal.len());
     if !verdict.keeps {
-        return Answer::Refused(Refusal::Image);
+        return Err(Refusal::Image);
     }
     let machine = verdict.machine;
     tried(machine, ram, paper, journal, index, address, answer)
@@ -193,9 +189,6 @@ pub fn last_write(
     ensures { LastWriteIs (buffers_back image.now ram.now paper.now journal.now index.now) address
         answer.old result answer.new }
 {
-    let test = buffers_test(ram.len(), paper.len(), journal.len());
-    match test {
-        Test::Failed(refusal) => Answer::Refused(refusal),
-        Test::Passed => with_image(image, ram, paper, journal, index, address, answer),
-    }
+    buffers_test(ram.len(), paper.len(), journal.len())?;
+    with_image(image, ram, paper, journal, index, address, answer)
 }

@@ -2,8 +2,7 @@
 use Prim.Native.Nat.{ℕ}
 use mathlib.Core.Path.{◌≡◌, ap, ◌∙◌}
 use Rattle.turn.specs.Buffers.{Buffers}
-use Rattle.answer.specs.declared.Answer.{Answer}
-use Rattle.answer.specs.Answer.{packed_of}
+use Rattle.answer.specs.Answer.{Answer, packed_of}
 use Rattle.accepted.specs.Left.{Left, left_of}
 use Rattle.lavushmir.specs.Panel.{PackedIs}
 

@@ -10,22 +10,23 @@ use Rattle.rules.specs.Rules.{ranges_keep}
 use Rattle.answer.specs.Lent.{any_index_fits}
 use Rattle.answer.specs.declared.Reason.TheVariants.{NoReason}
 use Rattle.answer.specs.declared.Refusal.TheVariants.{Image, Range, Index}
-use Rattle.answer.specs.declared.Answer.TheVariants.{Done, Refused}
+use Rattle.std.specs.Prelude.{Err}
+use Rattle.answer.specs.Answer.{done_with}
 use Rattle.reset.specs.Reset.{reset_answer}
 
 module _ (image index : List ℕ) (scale delay installed : ℕ) where
-  pub says_bad_length : (length image ≡ 741 → ⊥) → reset_answer image index scale delay installed ≡ Refused Image
+  pub says_bad_length : (length image ≡ 741 → ⊥) → reset_answer image index scale delay installed ≡ Err Image
   says_bad_length h = rw (ne_eqb (length image) 741 h)
 
-  pub says_bad_range : length image ≡ 741 → ranges_keep scale delay installed ≡ false → reset_answer image index scale delay installed ≡ Refused Range
+  pub says_bad_range : length image ≡ 741 → ranges_keep scale delay installed ≡ false → reset_answer image index scale delay installed ≡ Err Range
   says_bad_range h r = rw (eq-eqb (length image) 741 h) (rw r)
 
   pub says_bad_index : length image ≡ 741 → ranges_keep scale delay installed ≡ true → any_index_fits (length index) ≡ false →
-      reset_answer image index scale delay installed ≡ Refused Index
+      reset_answer image index scale delay installed ≡ Err Index
   says_bad_index h r f = rw (eq-eqb (length image) 741 h) (rw r (rw f))
 
   pub says_done : length image ≡ 741 → ranges_keep scale delay installed ≡ true → any_index_fits (length index) ≡ true →
-      reset_answer image index scale delay installed ≡ Done 0 NoReason
+      reset_answer image index scale delay installed ≡ done_with 0 NoReason
   says_done h r f = rw (eq-eqb (length image) 741 h) (rw r (rw f))
 
 pub record InRange (s d i : ℕ) : Type 0 where

@@ -14,16 +14,15 @@ use Rattle.answer.specs.Lent.{any_index_fits}
 use Rattle.answer.proofs.Rows.{Row, row, number_in, number_at, First, number_exact}
 use Rattle.answer.specs.declared.Reason.TheVariants.{NoReason}
 use Rattle.answer.specs.declared.Refusal.TheVariants.{Image, Range, Index}
-use Rattle.answer.specs.declared.Answer.{Answer}
-use Rattle.answer.specs.declared.Answer.TheVariants.{Done, Refused}
-use Rattle.answer.specs.Answer.{number_of, reason_of, steps_of}
+use Rattle.std.specs.Prelude.{Ok, Err}
+use Rattle.answer.specs.Answer.{number_of, reason_of, steps_of, Answer, done_with}
 use Rattle.reset.specs.Reset.{reset_machine, reset_answer, image_after, reset_image, index_after, reset_index, ResetIs}
 use Rattle.reset.proofs.Answers.{says_bad_length, says_bad_range, says_bad_index, says_done}
 use Rattle.reset.proofs.Keeps.{reset_keeps}
 
 -- the answer by its three tests: the image's length, the ranges, the index's length
 abbrev by_tests : Bool → Bool → Bool → Answer
-by_tests x y z = cond x (cond y (cond z (Done 0 NoReason) (Refused Index)) (Refused Range)) (Refused Image)
+by_tests x y z = cond x (cond y (cond z (done_with 0 NoReason) (Err Index)) (Err Range)) (Err Image)
 
 abbrev rows_of : (x y z : Bool) → List Row
 rows_of x y z = row 5 x ∷ row 6 y ∷ row 10 z ∷ []
@@ -80,7 +79,7 @@ module _ (image index : List ℕ) (scale delay installed : ℕ) where
     λ h. ap number_of (says_done image index scale delay installed h.0 h.1 h.2),
   )
 
-  done : number ≡ 0 → answer ≡ Done 0 NoReason
+  done : number ≡ 0 → answer ≡ done_with 0 NoReason
   done e =
       let h = number_0.0 e in
       says_done image index scale delay installed h.0 h.1 h.2
@@ -113,8 +112,8 @@ module _ (image index : List ℕ) (scale delay installed : ℕ) where
   refused_same h = kept answer h
     where
       kept : (r : Answer) → (number_of r ≡ 0 → ⊥) → (image_after r image scale delay installed ≡ image) × (index_after r index ≡ index)
-      kept (Done steps _) h = absurd (h refl)
-      kept (Refused refusal) h = (refl, refl)
+      kept (Ok d) h = absurd (h refl)
+      kept (Err refusal) h = (refl, refl)
 
   -- two answers that the statement allows are equal, and so are the images and the indexes
   pub one_answer : (r₁ r₂ : Answer) (b₁ b₂ x₁ x₂ : List ℕ) →

@@ -1,5 +1,5 @@
 -- Document 01, "Reset", with its refusals.
-use Rattle.std.specs.Prelude.{ℕ, ◌*◌, Bool, cond, List, ◌≡◌, eqb, length, replicate}
+use Rattle.std.specs.Prelude.{ℕ, ◌*◌, Bool, cond, List, ◌≡◌, eqb, length, replicate, Ok, Err}
 use Rattle.word.specs.Lists.{tabulate}
 use Rattle.word.specs.Map.{bit}
 use Rattle.word.specs.Sizes.{table_size, devices}
@@ -14,8 +14,7 @@ use Rattle.rules.specs.Rules.{ranges_keep}
 use Rattle.answer.specs.Lent.{any_index_fits}
 use Rattle.answer.specs.declared.Reason.TheVariants.{NoReason}
 use Rattle.answer.specs.declared.Refusal.TheVariants.{Image, Range, Index}
-use Rattle.answer.specs.declared.Answer.{Answer}
-use Rattle.answer.specs.declared.Answer.TheVariants.{Done, Refused}
+use Rattle.answer.specs.Answer.{Answer, done_with}
 
 -- ---- the machine after a reset: "words all 0 except PC 0x1FC00000, next PC 0x1FC00004, Status 0x10400000, Random field 15, timer 0xFFFFFFFF, the three
 -- parameters, STATUS 1 for installed printers"
@@ -72,21 +71,21 @@ reset_machine scale delay installed =
 abbrev pub reset_answer : List ℕ → List ℕ → ℕ → ℕ → ℕ → Answer
 reset_answer image index scale delay installed =
     cond (eqb (length image) image_length)
-    (cond (ranges_keep scale delay installed) (cond (any_index_fits (length index)) (Done 0 NoReason) (Refused Index)) (Refused Range))
-    (Refused Image)
+    (cond (ranges_keep scale delay installed) (cond (any_index_fits (length index)) (done_with 0 NoReason) (Err Index)) (Err Range))
+    (Err Image)
 
 -- a refusal writes nothing
 abbrev pub image_after : Answer → List ℕ → ℕ → ℕ → ℕ → List ℕ
-image_after (Done steps _) image scale delay installed = bytes_of (reset_machine scale delay installed)
-image_after (Refused refusal) image scale delay installed = image
+image_after (Ok d) image scale delay installed = bytes_of (reset_machine scale delay installed)
+image_after (Err refusal) image scale delay installed = image
 
 abbrev pub reset_image : List ℕ → List ℕ → ℕ → ℕ → ℕ → List ℕ
 reset_image image index scale delay installed = image_after (reset_answer image index scale delay installed) image scale delay installed
 
 -- "which reset empties"
 abbrev pub index_after : Answer → List ℕ → List ℕ
-index_after (Done steps _) index = replicate (length index) 0
-index_after (Refused refusal) index = index
+index_after (Ok d) index = replicate (length index) 0
+index_after (Err refusal) index = index
 
 abbrev pub reset_index : List ℕ → List ℕ → ℕ → ℕ → ℕ → List ℕ
 reset_index image index scale delay installed = index_after (reset_answer image index scale delay installed) index

@@ -7,7 +7,7 @@ ghost use Rattle.word.specs.Map.{bit};
 ghost use Rattle.reset.specs.Reset.{fresh_printer, reset_cpu, reset_board, reset_machine, ResetIs};
 
 use answer::lent::any_index_fits;
-use answer::{Answer, Reason, Refusal};
+use answer::{Answer, Done, Reason, Refusal};
 use clock::Clock;
 use cp0::registers::Cp0;
 use printer::{Line, Printer};
@@ -21,9 +21,8 @@ use word::map::has_bit;
 fn fresh_printer(installed: bool) -> Printer
     ensures { result ≡ fresh_printer installed }
 {
-    let status: u32 = if installed { 1 } else { 0 };
     Printer {
-        status,
+        status: u32::from(installed),
         command: 0,
         data0: 0,
         left: 0,
@@ -36,12 +35,13 @@ fn fresh_printers(installed: u32) -> [Printer; 8]
 {
     let absent = fresh_printer(false);
     let mut printers = [absent; 8];
-    for k in 0..8 {
-        printers[k] = fresh_printer(has_bit(k, installed));
+    for (k, printer) in printers.iter_mut().enumerate() {
+        *printer = fresh_printer(has_bit(k, installed));
     }
     printers
 }
 
+#[tactic(auto, unfolding(crate::specs::Reset::reset_cpu))]
 fn reset_cpu() -> Cpu
     ensures { result ≡ reset_cpu }
 {
@@ -70,6 +70,7 @@ fn reset_cpu() -> Cpu
     Cpu { regs, core, tlb }
 }
 
+#[tactic(auto, unfolding(crate::specs::Reset::reset_board))]
 fn reset_board(scale: u32, delay: u32, installed: u32) -> Board
     ensures { result ≡ reset_board scale delay installed }
 {
@@ -95,6 +96,7 @@ fn reset_board(scale: u32, delay: u32, installed: u32) -> Board
     }
 }
 
+#[tactic(auto, unfolding(crate::specs::Reset::reset_machine))]
 fn reset_machine(scale: u32, delay: u32, installed: u32) -> Machine
     ensures { result ≡ reset_machine scale delay installed }
 {
@@ -115,25 +117,26 @@ fn reset_machine(scale: u32, delay: u32, installed: u32) -> Machine
 pub fn empty(index: &mut [u8])
     ensures { index.new ≡ replicate (length index.old) 0 }
 {
-    for i in 0..index.len() {
-        index[i] = 0;
-    }
+    index.fill(0);
 }
 
 pub fn reset(image: &mut [u8], index: &mut [u8], scale: u64, delay: u64, installed: u64) -> Answer
     ensures { ResetIs image.old index.old scale delay installed result image.new index.new }
 {
     if image.len() != IMAGE {
-        return Answer::Refused(Refusal::Image);
+        return Err(Refusal::Image);
     }
     if !ranges_keep(scale, delay, installed) {
-        return Answer::Refused(Refusal::Range);
+        return Err(Refusal::Range);
     }
     if !any_index_fits(index.len()) {
-        return Answer::Refused(Refusal::Index);
+        return Err(Refusal::Index);
     }
     let m = reset_machine(scale as u32, delay as u32, installed as u32);
     encode(m, image);
     empty(index);
-    Answer::Done(0, Reason::NoReason)
+    Ok(Done {
+        steps: 0,
+        reason: Reason::NoReason,
+    })
 }

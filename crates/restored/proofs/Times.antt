@@ -9,7 +9,8 @@ use Rattle.clock.specs.Tick.{time_of, clock_at, up, down, ticked_of}
 use Rattle.clock.specs.declared.Clock.{Clock}
 use Rattle.bus.specs.Stored.{clock_stored}
 use Rattle.bus.specs.declared.store.Store.{Store}
-use Rattle.bus.specs.declared.store.Store.TheVariants.{Nothing, Timer, Command, Data}
+use Rattle.bus.specs.declared.store.Store.TheVariants.{Timer, Command, Data}
+use Rattle.std.proofs.Common.{Option, Some, None}
 use Rattle.state.specs.Layout.{clock_words}
 use Rattle.undo.specs.Undo.{clock_back}
 
@@ -52,8 +53,8 @@ clock_back_lem c h =
     ∙ own_clock c h
 
 -- a store on the bus sets the timer alone, which the record has
-pub stored_back : (timer : ℕ) (s : Store) (c : Clock) → clock_back timer (clock_stored s c) ≡ clock_back timer c
-stored_back timer Nothing c = refl
-stored_back timer (Timer word) c = refl
-stored_back timer (Command n word) c = refl
-stored_back timer (Data n word) c = refl
+pub stored_back : (timer : ℕ) (s : Option Store) (c : Clock) → clock_back timer (clock_stored s c) ≡ clock_back timer c
+stored_back timer None c = refl
+stored_back timer (Some (Timer word)) c = refl
+stored_back timer (Some (Command n word)) c = refl
+stored_back timer (Some (Data n word)) c = refl

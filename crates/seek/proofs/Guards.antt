@@ -12,17 +12,17 @@ use Rattle.seek.specs.OnHand.{fits_in, held_of, records_of}
 use Rattle.seek.specs.Latest.{scan}
 use Rattle.seek.specs.Pcs.{newest, oldest}
 use Rattle.seek.specs.Seek.{has_word, writes_of, pc_of, last_change_of, newest_at_of, oldest_at_of}
-use Rattle.seek.specs.declared.Sought.TheVariants as sought
-use Rattle.seek.specs.declared.Place.TheVariants.{Nothing}
+use Rattle.std.specs.Prelude.{Option, None}
+use Rattle.seek.specs.declared.Change.{Change}
 use Rattle.seek.proofs.OnHand.{held_long}
 
 pub has_room : (ram : List ℕ) (place : ℕ) → has_word ram place ≡ true → place + 4 ≤ length ram
 has_room ram place e = leb-true (place + 4) (length ram) (both (eqb (place % 4) 0) (leb (place + 4) (length ram)) e).1
 
-pub no_word : (ram journal : List ℕ) (hand next place : ℕ) → has_word ram place ≡ false → sought.Nothing ≡ last_change_of ram journal hand next place
+pub no_word : (ram journal : List ℕ) (hand next place : ℕ) → has_word ram place ≡ false → None ≡ last_change_of ram journal hand next place
 unfolding last_change_of
 no_word ram journal hand next place e =
-    ap (λ (b : Bool). cond b (scan place (load_at 4 ram place) 0 (map writes_of (records_of journal hand next))) sought.Nothing) (sym e)
+    ap (λ (b : Bool). cond b (scan place (load_at 4 ram place) 0 (map writes_of (records_of journal hand next))) None) (sym e)
 
 module _ (journal : List ℕ) (hand next : ℕ) where
   records : Bool → List (List ℕ)
@@ -33,21 +33,21 @@ module _ (journal : List ℕ) (hand next : ℕ) where
     unfolding records
     none = ap records (sym e)
 
-    pub unfit_newest : (pc : ℕ) → Nothing ≡ newest_at_of journal hand next pc
+    pub unfit_newest : (pc : ℕ) → None ≡ newest_at_of journal hand next pc
     unfolding newest_at_of
     unfit_newest pc = ap (λ (l : List (List ℕ)). newest pc 0 (map pc_of l)) none
 
-    pub unfit_oldest : (pc : ℕ) → Nothing ≡ oldest_at_of journal hand next pc
+    pub unfit_oldest : (pc : ℕ) → None ≡ oldest_at_of journal hand next pc
     unfolding oldest_at_of
     unfit_oldest pc = ap (λ (l : List (List ℕ)). oldest pc (map pc_of l) (length (map pc_of l))) none
 
-    pub unfit_change : (ram : List ℕ) (place : ℕ) → sought.Nothing ≡ last_change_of ram journal hand next place
+    pub unfit_change : (ram : List ℕ) (place : ℕ) → None ≡ last_change_of ram journal hand next place
     unfolding last_change_of
     unfit_change ram place =
         either (has_word ram place)
-        ∙ ap (λ (l : List (List ℕ)). cond (has_word ram place) (scan place (load_at 4 ram place) 0 (map writes_of l)) sought.Nothing) none
+        ∙ ap (λ (l : List (List ℕ)). cond (has_word ram place) (scan place (load_at 4 ram place) 0 (map writes_of l)) None) none
       where
-        either : (b : Bool) → sought.Nothing ≡ cond b sought.Nothing sought.Nothing
+        either : (b : Bool) → None ≡ cond {A = Option Change} b None None
         either true = refl
         either false = refl
 
@@ -71,4 +71,4 @@ module _ (journal : List ℕ) (hand next : ℕ) where
     unfolding last_change_of
     fit_change ram place has present is =
         ap (λ (word : ℕ). scan place word 0 (map writes_of (held_of journal hand next))) is
-        ∙ ap₂ (λ (l : List (List ℕ)) (b : Bool). cond b (scan place (load_at 4 ram place) 0 (map writes_of l)) sought.Nothing) all (sym has)
+        ∙ ap₂ (λ (l : List (List ℕ)) (b : Bool). cond b (scan place (load_at 4 ram place) 0 (map writes_of l)) None) all (sym has)

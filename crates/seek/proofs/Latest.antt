@@ -12,15 +12,15 @@ use lib.Seq.{drop-cons}
 use lib.Dec.{eqb}
 use borrow.Author.Tests.{eqb-true, eqb-false, eq-eqb, ne_eqb}
 use Rattle.ring.proofs.Slots.{by_leb}
-use Rattle.seek.specs.Latest.{Write, word_before, word_back, Left, Last, Answers, scan}
-use Rattle.seek.specs.declared.Sought.{Sought}
-use Rattle.seek.specs.declared.Sought.TheVariants.{At, Nothing}
+use Rattle.std.specs.Prelude.{Option, Some, None}
+use Rattle.seek.specs.declared.Change.{Change}
+use Rattle.seek.specs.Latest.{Write, word_before, change_of, word_back, Left, Last, Altered, Answers, scan}
 
 module _ (place word : ℕ) where
   -- what the scan answers, j records passed
-  abbrev Passed : ℕ → List (List Write) → Sought → Type 0
-  Passed j steps Nothing = Answers place steps word Nothing
-  Passed j steps (At i old new) = (k : ℕ) × (i ≡ suc (j + k)) × Last place steps word k old new
+  abbrev Passed : ℕ → List (List Write) → Option Change → Type 0
+  Passed j steps None = Answers place steps word None
+  Passed j steps (Some c) = (k : ℕ) × (c.step ≡ suc (j + k)) × Last place steps word k c.old c.new
 
   module _ (s : List Write) (older : List (List Write)) (same : word_before place s word ≡ word) where
     -- one more step, which left the word: what holds of the older ones
@@ -41,12 +41,12 @@ module _ (place word : ℕ) where
           newer = λ j l. left_more j (λ i e. h.newer i (omega arith));
         }
 
-    passed_more : (j : ℕ) (r : Sought) → Passed (suc j) older r → Passed j (s ∷ older) r
-    passed_more j Nothing h = λ k l. left_more k (λ i e. h i (omega arith))
-    passed_more j (At i old new) h =
-        (suc h.0, h.1 ∙ ap suc (suc-add j h.0 ∙ sym (add-suc j h.0)), last_more h.0 old new h.2)
+    passed_more : (j : ℕ) (r : Option Change) → Passed (suc j) older r → Passed j (s ∷ older) r
+    passed_more j None h = λ k l. left_more k (λ i e. h i (omega arith))
+    passed_more j (Some c) h =
+        (suc h.0, h.1 ∙ ap suc (suc-add j h.0 ∙ sym (add-suc j h.0)), last_more h.0 c.old c.new h.2)
 
-  passed_here : (j : ℕ) (s : List Write) (older : List (List Write)) → word_before place s word ≢ word → Passed j (s ∷ older) (At (suc j) (word_before place s word) word)
+  passed_here : (j : ℕ) (s : List Write) (older : List (List Write)) → word_before place s word ≢ word → Passed j (s ∷ older) (Some (change_of (suc j) (word_before place s word) word))
   passed_here j s older other = (
     0,
     ap suc (sym (add-zero j)),
@@ -64,15 +64,15 @@ module _ (place word : ℕ) where
   scan_passed j (s ∷ older) = go (eqb (word_before place s word) word) refl (scan_passed (suc j) older)
     where
       go : (b : Bool) → eqb (word_before place s word) word ≡ b → Passed (suc j) older (scan place word (suc j) older) →
-          Passed j (s ∷ older) (cond b (scan place word (suc j) older) (At (suc j) (word_before place s word) word))
+          Passed j (s ∷ older) (cond b (scan place word (suc j) older) (Some (change_of (suc j) (word_before place s word) word)))
       go true e ih = passed_more s older (eqb-true (word_before place s word) word e) j (scan place word (suc j) older) ih
       go false e ih = passed_here j s older (eqb-false (word_before place s word) word e)
 
   module _ (steps : List (List Write)) where
-    answers_of : (r : Sought) → Passed 0 steps r → Answers place steps word r
-    answers_of Nothing h = h
-    answers_of (At i old new) h =
-        subst (λ (i : ℕ). Answers place steps word (At i old new)) (sym (h.1 ∙ ap suc (zero-add h.0))) h.2
+    answers_of : (r : Option Change) → Passed 0 steps r → Answers place steps word r
+    answers_of None h = h
+    answers_of (Some c) h =
+        subst (λ (i : ℕ). Altered place steps word i c.old c.new) (sym (h.1 ∙ ap suc (zero-add h.0))) h.2
 
     -- the scan answers
     pub scan_answers : Answers place steps word (scan place word 0 steps)
@@ -84,52 +84,59 @@ module _ (place word : ℕ) where
     not_left k old new h same = h.differ (h.before ∙ same ∙ sym h.after)
 
     last_one : (k old new k' old' new' : ℕ) → Last place steps word k old new → Last place steps word k' old' new' →
-        At (suc k) old new ≡ At (suc k') old' new'
+        change_of (suc k) old new ≡ change_of (suc k') old' new'
     last_one k old new k' old' new' h h' =
         elim (ℕ_discrete k k') [
           | yes e ↦
               let o : old ≡ old' = h.before ∙ ap (λ (i : ℕ). word_back place steps word (suc i)) e ∙ sym h'.before in
               let w : new ≡ new' = h.after ∙ ap (word_back place steps word) e ∙ sym h'.after in
-              (λ i. At (suc (e i)) (o i) (w i))
+              (λ i. change_of (suc (e i)) (o i) (w i))
           | no e ↦
               by_leb k k'
               (λ l. absurd (not_left k old new h (h'.newer k (omega arith))))
               (λ l. absurd (not_left k' old' new' h' (h.newer k' l)))
         ]
 
-    pub one_answer : (r r' : Sought) → Answers place steps word r → Answers place steps word r' → r ≡ r'
-    one_answer Nothing Nothing h h' = refl
-    one_answer Nothing (At zero old new) h h' = absurd h'
-    one_answer Nothing (At (suc k) old new) h h' = absurd (not_left k old new h' (h k h'.within))
-    one_answer (At zero old new) r' h h' = absurd h
-    one_answer (At (suc k) old new) Nothing h h' = absurd (not_left k old new h (h' k h.within))
-    one_answer (At (suc k) old new) (At zero old' new') h h' = absurd h'
-    one_answer (At (suc k) old new) (At (suc k') old' new') h h' = last_one k old new k' old' new' h h'
+    not_none : (i old new : ℕ) → Altered place steps word i old new → Answers place steps word None → ⊥
+    not_none zero old new h none = h
+    not_none (suc k) old new h none = not_left k old new h (none k h.within)
+
+    change_one : (i old new i' old' new' : ℕ) → Altered place steps word i old new → Altered place steps word i' old' new' →
+        change_of i old new ≡ change_of i' old' new'
+    change_one zero old new i' old' new' h h' = absurd h
+    change_one (suc k) old new zero old' new' h h' = absurd h'
+    change_one (suc k) old new (suc k') old' new' h h' = last_one k old new k' old' new' h h'
+
+    pub one_answer : (r r' : Option Change) → Answers place steps word r → Answers place steps word r' → r ≡ r'
+    one_answer None None h h' = refl
+    one_answer None (Some c) h h' = absurd (not_none c.step c.old c.new h' h)
+    one_answer (Some c) None h h' = absurd (not_none c.step c.old c.new h h')
+    one_answer (Some c) (Some c') h h' = ap Some (change_one c.step c.old c.new c'.step c'.old c'.new h h')
 
     -- nothing exactly if every step on hand left the word
-    pub nothing_if : Answers place steps word Nothing → scan place word 0 steps ≡ Nothing
-    nothing_if h = one_answer (scan place word 0 steps) Nothing scan_answers h
+    pub nothing_if : Answers place steps word None → scan place word 0 steps ≡ None
+    nothing_if h = one_answer (scan place word 0 steps) None scan_answers h
 
-    pub nothing_only_if : scan place word 0 steps ≡ Nothing → Answers place steps word Nothing
+    pub nothing_only_if : scan place word 0 steps ≡ None → Answers place steps word None
     nothing_only_if e = subst (Answers place steps word) e scan_answers
 
     -- ---- for a loop with j records passed
 
-    pub scan_ends : (j : ℕ) → length steps ≤ j → scan place word j (drop j steps) ≡ Nothing
+    pub scan_ends : (j : ℕ) → length steps ≤ j → scan place word j (drop j steps) ≡ None
     scan_ends j h = ap (scan place word j) (drop_of_length-le steps h)
 
     pub scan_goes : (j : ℕ) → j < length steps → word_before place (get_or steps j []) word ≡ word →
         scan place word j (drop j steps) ≡ scan place word (suc j) (drop (suc j) steps)
     scan_goes j h e =
         ap (scan place word j) (drop-cons steps j [] h)
-        ∙ ap (λ (b : Bool). cond b (scan place word (suc j) (drop (suc j) steps)) (At (suc j) (word_before place (get_or steps j []) word) word))
+        ∙ ap (λ (b : Bool). cond b (scan place word (suc j) (drop (suc j) steps)) (Some (change_of (suc j) (word_before place (get_or steps j []) word) word)))
         (eq-eqb (word_before place (get_or steps j []) word) word e)
 
     pub scan_stops : (j : ℕ) → j < length steps → word_before place (get_or steps j []) word ≢ word →
-        scan place word j (drop j steps) ≡ At (suc j) (word_before place (get_or steps j []) word) word
+        scan place word j (drop j steps) ≡ Some (change_of (suc j) (word_before place (get_or steps j []) word) word)
     scan_stops j h e =
         ap (scan place word j) (drop-cons steps j [] h)
-        ∙ ap (λ (b : Bool). cond b (scan place word (suc j) (drop (suc j) steps)) (At (suc j) (word_before place (get_or steps j []) word) word))
+        ∙ ap (λ (b : Bool). cond b (scan place word (suc j) (drop (suc j) steps)) (Some (change_of (suc j) (word_before place (get_or steps j []) word) word)))
         (ne_eqb (word_before place (get_or steps j []) word) word e)
 
 -- ---- one more step taken back, for a machine whose states are undone from the newest record on

@@ -7,11 +7,10 @@ use mathlib.Core.Logic.{◌≢◌}
 use mathlib.Core.List.{List, [], map}
 use lib.ListN.{length, get_or, drop}
 use Rattle.seek.specs.OnHand.{kth_of, held_of}
-use Rattle.seek.specs.Latest.{Write, word_before, scan}
+use Rattle.seek.specs.Latest.{Write, word_before, change_of, scan}
 use Rattle.seek.specs.Pcs.{newest, oldest}
 use Rattle.seek.specs.Seek.{writes_of, pc_of}
-use Rattle.seek.specs.declared.Sought.TheVariants as sought
-use Rattle.seek.specs.declared.Place.TheVariants.{At, Nothing}
+use Rattle.std.specs.Prelude.{Some, None}
 use Rattle.seek.proofs.OnHand.{held_long, held_at}
 use Rattle.seek.proofs.Latest.{scan_goes, scan_stops, scan_ends}
 use Rattle.seek.proofs.Pcs.{newest_goes, newest_stops, newest_ends, oldest_goes, oldest_stops}
@@ -30,7 +29,7 @@ module _ (journal : List ℕ) (hand next : ℕ) where
   scanned_start place word = record { within = omega arith; rest = refl }
 
   module _ {place word k : ℕ} (h : Scanned place word k) where
-    pub scanned_ends : hand ≤ k → sought.Nothing ≡ scan place word 0 steps
+    pub scanned_ends : hand ≤ k → None ≡ scan place word 0 steps
     scanned_ends past = sym (scan_ends place word steps k (omega (arith, held_long writes_of journal hand next))) ∙ h.rest
 
     module _ (left : k < hand) (slot : List ℕ) (at : slot ≡ kth_of journal next (k + 1)) (old : ℕ) (is : old ≡ word_before place (writes_of slot) word) where
@@ -55,10 +54,10 @@ module _ (journal : List ℕ) (hand next : ℕ) where
                 ∙ h.rest;
           }
 
-      pub scanned_stops : old ≢ word → sought.At (k + 1) old word ≡ scan place word 0 steps
+      pub scanned_stops : old ≢ word → Some (change_of (k + 1) old word) ≡ scan place word 0 steps
       scanned_stops other =
-          ap (λ (i : ℕ). sought.At i old word) (add-one k)
-          ∙ ap (λ (w : ℕ). sought.At (suc k) w word) (sym before)
+          ap (λ (i : ℕ). Some (change_of i old word)) (add-one k)
+          ∙ ap (λ (w : ℕ). Some (change_of (suc k) w word)) (sym before)
           ∙ sym (scan_stops place word steps k low (λ e. other (sym before ∙ e)))
           ∙ h.rest
 
@@ -78,7 +77,7 @@ module _ (journal : List ℕ) (hand next : ℕ) where
   pc_at k left = held_at pc_of journal hand next k 0 left ∙ ap (λ (i : ℕ). pc_of (kth_of journal next i)) (sym (add-one k))
 
   module _ {pc k : ℕ} (h : Passed pc k) where
-    pub passed_ends : hand ≤ k → Nothing ≡ newest pc 0 pcs
+    pub passed_ends : hand ≤ k → None ≡ newest pc 0 pcs
     passed_ends past = sym (newest_ends pc pcs k (omega (arith, held_long pc_of journal hand next))) ∙ h.rest
 
     module _ (left : k < hand) (p : ℕ) (is : p ≡ pc_of (kth_of journal next (k + 1))) where
@@ -95,8 +94,8 @@ module _ (journal : List ℕ) (hand next : ℕ) where
                 ∙ h.rest;
           }
 
-      pub passed_stops : p ≡ pc → At (k + 1) ≡ newest pc 0 pcs
-      passed_stops same = ap At (add-one k) ∙ sym (newest_stops pc pcs k few (pc_at k left ∙ sym is ∙ same)) ∙ h.rest
+      pub passed_stops : p ≡ pc → Some (k + 1) ≡ newest pc 0 pcs
+      passed_stops same = ap Some (add-one k) ∙ sym (newest_stops pc pcs k few (pc_at k left ∙ sym is ∙ same)) ∙ h.rest
 
   -- ---- the oldest at a PC: k records are left
 
@@ -107,19 +106,19 @@ module _ (journal : List ℕ) (hand next : ℕ) where
   pub remaining_start : (pc : ℕ) → Remaining pc hand
   remaining_start pc = record { within = omega arith; rest = refl }
 
-  pub remaining_ends : {pc k : ℕ} → Remaining pc k → k ≤ 0 → Nothing ≡ oldest pc pcs hand
+  pub remaining_ends : {pc k : ℕ} → Remaining pc k → k ≤ 0 → None ≡ oldest pc pcs hand
   remaining_ends {pc} {k} h past =
       let none : k ≡ 0 = omega arith in
       ap (oldest pc pcs) (sym none) ∙ h.rest
 
-  module _ {pc k : ℕ} (h : Remaining pc k) (some : 0 < k) (p : ℕ) (is : p ≡ pc_of (kth_of journal next k)) where
+  module _ {pc k : ℕ} (h : Remaining pc k) (some : 0 < k) (p : ℕ) (is : p ≡ pc_of (kth_of journal next (k - 1 + 1))) where
     one_more : suc (k - 1) ≡ k
     one_more = omega arith
 
     here : get_or pcs (k - 1) 0 ≡ p
     here =
         held_at pc_of journal hand next (k - 1) 0 (omega (arith, h.within))
-        ∙ ap (λ (i : ℕ). pc_of (kth_of journal next i)) one_more
+        ∙ ap (λ (i : ℕ). pc_of (kth_of journal next i)) (sym (add-one (k - 1)))
         ∙ sym is
 
     pub remaining_more : p ≢ pc → Remaining pc (k - 1)
@@ -129,6 +128,6 @@ module _ (journal : List ℕ) (hand next : ℕ) where
           rest = sym (oldest_goes pc pcs (k - 1) (λ e. other (sym here ∙ e))) ∙ ap (oldest pc pcs) one_more ∙ h.rest;
         }
 
-    pub remaining_stops : p ≡ pc → At k ≡ oldest pc pcs hand
+    pub remaining_stops : p ≡ pc → Some (k - 1 + 1) ≡ oldest pc pcs hand
     remaining_stops same =
-        ap At (sym one_more) ∙ sym (oldest_stops pc pcs (k - 1) (here ∙ same)) ∙ ap (oldest pc pcs) one_more ∙ h.rest
+        ap Some (add-one (k - 1)) ∙ sym (oldest_stops pc pcs (k - 1) (here ∙ same)) ∙ ap (oldest pc pcs) one_more ∙ h.rest

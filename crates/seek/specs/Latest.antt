@@ -1,7 +1,6 @@
 -- The latest step on hand that altered a word of RAM.
-use Rattle.std.specs.Prelude.{ℕ, zero, suc, ◌<◌, ◌≡◌, ◌≢◌, cond, List, [], ◌∷◌, length, eqb}
-use Rattle.seek.specs.declared.Sought.{Sought}
-use Rattle.seek.specs.declared.Sought.TheVariants.{At, Nothing}
+use Rattle.std.specs.Prelude.{ℕ, zero, suc, ◌<◌, ◌≡◌, ◌≢◌, cond, List, [], ◌∷◌, length, eqb, Option, Some, None}
+use Rattle.seek.specs.declared.Change.{Change}
 
 -- what a record keeps of a place that its step wrote: the word as it was before the step
 pub record Write : Type 0 where
@@ -13,12 +12,16 @@ abbrev pub word_before : ℕ → List Write → ℕ → ℕ
 word_before place [] word = word
 word_before place (w ∷ ws) word = cond (eqb w.place place) w.old (word_before place ws word)
 
+-- the step so counted, 1 being the newest, with the word before and after it
+abbrev pub change_of : (step old new : ℕ) → Change
+change_of step old new = record { step = step; old = old; new = new }
+
 -- THE SCAN, as code does it, with j records passed: it stops at the first, from the newest on, whose word before is not the present one. Up to there the
 -- word of every state passed is the present one, so none is tracked.
-abbrev pub scan : ℕ → ℕ → ℕ → List (List Write) → Sought
-scan place word j [] = Nothing
+abbrev pub scan : ℕ → ℕ → ℕ → List (List Write) → Option Change
+scan place word j [] = None
 scan place word j (s ∷ older) =
-    cond (eqb (word_before place s word) word) (scan place word (suc j) older) (At (suc j) (word_before place s word) word)
+    cond (eqb (word_before place s word) word) (scan place word (suc j) older) (Some (change_of (suc j) (word_before place s word) word))
 
 -- ---- aids to proofs: nothing that a reader must believe
 
@@ -40,8 +43,12 @@ pub record Last (place : ℕ) (steps : List (List Write)) (word k old new : ℕ)
   pub differ : old ≢ new
   pub newer : (j : ℕ) → j < k → Left place steps word j
 
--- what is to be answered: the step is counted from 1, and Nothing says that every step on hand left the word as it was
-abbrev pub Answers : ℕ → List (List Write) → ℕ → Sought → Type 0
-Answers place steps word Nothing = (k : ℕ) → k < length steps → Left place steps word k
-Answers place steps word (At zero old new) = ⊥
-Answers place steps word (At (suc k) old new) = Last place steps word k old new
+-- the step so counted from 1 is the newest that altered the word, from old to new
+abbrev pub Altered : ℕ → List (List Write) → ℕ → (step old new : ℕ) → Type 0
+Altered place steps word zero old new = ⊥
+Altered place steps word (suc k) old new = Last place steps word k old new
+
+-- what is to be answered: None says that every step on hand left the word as it was
+abbrev pub Answers : ℕ → List (List Write) → ℕ → Option Change → Type 0
+Answers place steps word None = (k : ℕ) → k < length steps → Left place steps word k
+Answers place steps word (Some c) = Altered place steps word c.step c.old c.new

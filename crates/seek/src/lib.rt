@@ -12,18 +12,12 @@ use memory::load_word;
 use record::decode::word;
 use record::{KIND, OLD, PC, PLACE, RAM};
 
-// The k-th newest step on hand, 1 being the newest, with the word before and after it.
-#[derive(Clone, Copy)]
-pub enum Sought {
-    At(u32, u32, u32),
-    Nothing,
-}
-
-// The k-th newest step on hand.
-#[derive(Clone, Copy)]
-pub enum Place {
-    At(u32),
-    Nothing,
+// A step on hand that changed a word, with the word before and after it. Steps are counted from the newest, which is 1.
+#[derive(Clone, Copy, PartialEq, Eq)]
+pub struct Change {
+    pub step: u32,
+    pub old: u32,
+    pub new: u32,
 }
 
 fn fits(journal: &[u8], hand: u32, next: u32) -> bool
@@ -72,79 +66,85 @@ fn pc_at(journal: &[u8], next: u32, k: u32) -> u32
 }
 
 // Up to the step that changed it the word is the present one, so none is tracked.
-fn changed(journal: &[u8], hand: u32, next: u32, place: u32, present: u32) -> Sought
+fn changed(journal: &[u8], hand: u32, next: u32, place: u32, present: u32) -> Option<Change>
     requires { Fits journal.now hand next }
     ensures { result ≡ scan place present 0 (map writes_of (held_of journal.now hand next)) }
 {
-    let mut k = 0;
-    while k < hand {
-        k += 1;
-        let old = word_before(record_at(journal, next, k), place, present);
+    for k in 0..hand {
+        let step = k + 1;
+        let old = word_before(record_at(journal, next, step), place, present);
         if old != present {
-            return Sought::At(k, old, present);
+            return Some(Change {
+                step,
+                old,
+                new: present,
+            });
         }
     }
-    Sought::Nothing
+    None
 }
 
-fn newest(journal: &[u8], hand: u32, next: u32, pc: u32) -> Place
+fn newest(journal: &[u8], hand: u32, next: u32, pc: u32) -> Option<u32>
     requires { Fits journal.now hand next }
     ensures { result ≡ Pcs.newest pc 0 (map pc_of (held_of journal.now hand next)) }
 {
-    let mut k = 0;
-    while k < hand {
-        k += 1;
-        if pc_at(journal, next, k) == pc {
-            return Place::At(k);
+    for k in 0..hand {
+        let step = k + 1;
+        if pc_at(journal, next, step) == pc {
+            return Some(step);
         }
     }
-    Place::Nothing
+    None
 }
 
-fn oldest(journal: &[u8], hand: u32, next: u32, pc: u32) -> Place
+fn oldest(journal: &[u8], hand: u32, next: u32, pc: u32) -> Option<u32>
     requires { Fits journal.now hand next }
     ensures { result ≡ Pcs.oldest pc (map pc_of (held_of journal.now hand next)) hand }
 {
-    let mut left = hand;
-    while 0 < left {
-        if pc_at(journal, next, left) == pc {
-            return Place::At(left);
+    for k in (0..hand).rev() {
+        if pc_at(journal, next, k + 1) == pc {
+            return Some(k + 1);
         }
-        left -= 1;
     }
-    Place::Nothing
+    None
 }
 
 // Of the `on_hand` newest records, the newest step that changed the word of RAM at `place`; a store of the value that it had does not count.
-pub fn last_change(ram: &[u8], journal: &[u8], on_hand: u32, next_slot: u32, place: u32) -> Sought
+pub fn last_change(
+    ram: &[u8],
+    journal: &[u8],
+    on_hand: u32,
+    next_slot: u32,
+    place: u32,
+) -> Option<Change>
     ensures { result ≡ last_change_of ram.now journal.now on_hand next_slot place }
 {
     if !has_word(ram, place) {
-        return Sought::Nothing;
+        return None;
     }
     if !fits(journal, on_hand, next_slot) {
-        return Sought::Nothing;
+        return None;
     }
     let present = load_word(ram, place as usize);
     changed(journal, on_hand, next_slot, place, present)
 }
 
 // The newest record on hand whose PC is `pc`.
-pub fn newest_at(journal: &[u8], on_hand: u32, next_slot: u32, pc: u32) -> Place
+pub fn newest_at(journal: &[u8], on_hand: u32, next_slot: u32, pc: u32) -> Option<u32>
     ensures { result ≡ newest_at_of journal.now on_hand next_slot pc }
 {
     if !fits(journal, on_hand, next_slot) {
-        return Place::Nothing;
+        return None;
     }
     newest(journal, on_hand, next_slot, pc)
 }
 
 // The oldest.
-pub fn oldest_at(journal: &[u8], on_hand: u32, next_slot: u32, pc: u32) -> Place
+pub fn oldest_at(journal: &[u8], on_hand: u32, next_slot: u32, pc: u32) -> Option<u32>
     ensures { result ≡ oldest_at_of journal.now on_hand next_slot pc }
 {
     if !fits(journal, on_hand, next_slot) {
-        return Place::Nothing;
+        return None;
     }
     oldest(journal, on_hand, next_slot, pc)
 }

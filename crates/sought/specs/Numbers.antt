@@ -1,16 +1,12 @@
 -- The answers of `seek` as numbers, for C: 0 where there is none.
-use Rattle.std.specs.Prelude.{ℕ, List, [], ◌∷◌}
-use Rattle.seek.specs.declared.Sought.{Sought}
-use Rattle.seek.specs.declared.Sought.TheVariants as sought
-use Rattle.seek.specs.declared.Place.{Place}
-use Rattle.seek.specs.declared.Place.TheVariants.{At, Nothing}
+use Rattle.std.specs.Prelude.{ℕ, List, [], ◌∷◌, Option, Some, None, unwrap_or}
+use Rattle.seek.specs.declared.Change.{Change}
 
 -- ---- aids to proofs: nothing that a reader must believe
 
-abbrev pub place_number : Place → ℕ
-place_number (At k) = k
-place_number Nothing = 0
+abbrev pub step_number : Option ℕ → ℕ
+step_number found = unwrap_or found 0
 
-abbrev pub sought_numbers : Sought → List ℕ
-sought_numbers (sought.At k old new) = k ∷ old ∷ new ∷ []
-sought_numbers sought.Nothing = 0 ∷ 0 ∷ 0 ∷ []
+abbrev pub change_numbers : Option Change → List ℕ
+change_numbers (Some c) = c.step ∷ c.old ∷ c.new ∷ []
+change_numbers None = 0 ∷ 0 ∷ 0 ∷ []

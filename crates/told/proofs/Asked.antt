@@ -19,7 +19,8 @@ use Rattle.answer.specs.Lent.{ram_fits}
 use Rattle.accepted.specs.After.{world_from}
 use Rattle.accepted.proofs.Start.{ring_sound, image_mark}
 use Rattle.seek.specs.Seek.{has_word}
-use Rattle.seek.specs.declared.Sought.{Sought}
+use Rattle.std.specs.Prelude.{Option}
+use Rattle.seek.specs.declared.Change.{Change}
 use Rattle.lastwrite.specs.LastWrite.{word_fits, place_of, found_in}
 use Rattle.lastwrite.proofs.Answers.{word_says}
 use Rattle.lastwrite.proofs.Theorems.{last_write_number, number_0}
@@ -54,7 +55,7 @@ module _ (b : Buffers) (address room : ℕ) (number : last_write_number b addres
   asked_tells =
       back_tells journal b.beside.index mark.on_hand mark.next_slot (world_from b) sound ((number_0 b address room).0 number).1.1.1.1.0 (place_of address) has bytes
 
-  pub asked_only : (r : Sought) →
+  pub asked_only : (r : Option Change) →
       Tells (taken_back journal b.beside.index mark.on_hand mark.next_slot (world_from b)) mark.on_hand (place_of address) r → r ≡ found_in b address
   asked_only =
       back_only journal b.beside.index mark.on_hand mark.next_slot (world_from b) sound ((number_0 b address room).0 number).1.1.1.1.0 (place_of address) has bytes

@@ -29,7 +29,8 @@ use Rattle.seek.specs.OnHand.{kth_of, held_of}
 use Rattle.seek.specs.Latest.{word_before}
 use Rattle.seek.specs.Pcs.{newest, oldest}
 use Rattle.seek.specs.Seek.{has_word, writes_of, pc_of, last_change_of, newest_at_of, oldest_at_of}
-use Rattle.seek.specs.declared.Sought.{Sought}
+use Rattle.std.specs.Prelude.{Option}
+use Rattle.seek.specs.declared.Change.{Change}
 use Rattle.told.specs.Told.{word_at, pc_at, Tells, pcs_ago}
 use Rattle.told.proofs.Tells.{aligned, change_held, newest_held, oldest_held, scan_tells, scan_only, pcs_are, tells_same}
 use Rattle.told.proofs.Word.{Small, word_undone}
@@ -120,7 +121,7 @@ module _ (journal index : List ℕ) (hand next : ℕ) (w : World) where
           (subst (Tells undone_to hand place) (change_held journal hand next sound w.ram place has)
           (scan_tells journal hand next undone_to place says))
 
-      pub back_only : (r : Sought) → Tells taken_back hand place r → r ≡ last_change_of w.ram journal hand next place
+      pub back_only : (r : Option Change) → Tells taken_back hand place r → r ≡ last_change_of w.ram journal hand next place
       unfolding undone
       back_only r told =
           scan_only journal hand next undone_to place says r (tells_same taken_back undone_to hand (λ k l. sym (taken_is k l)) place r told)

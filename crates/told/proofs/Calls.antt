@@ -19,7 +19,8 @@ use Rattle.demand3.proofs.Carried.{config_at, carried_start}
 use Rattle.demand3.proofs.Demand3.{carried_all}
 use Rattle.seek.specs.Pcs.{newest, oldest}
 use Rattle.seek.specs.Seek.{has_word, last_change_of, newest_at_of, oldest_at_of}
-use Rattle.seek.specs.declared.Sought.{Sought}
+use Rattle.std.specs.Prelude.{Option}
+use Rattle.seek.specs.declared.Change.{Change}
 use Rattle.told.specs.Told.{Tells, pcs_ago, ago_in}
 use Rattle.told.proofs.History.{holds_tells, holds_only, holds_newest, holds_oldest}
 
@@ -51,7 +52,7 @@ module _ (b : Boot) (p : Booted b) (calls : List Call) where
       (config_at b h) held place has
 
   -- so each answer of it is told exactly where it holds
-  pub change_only : (place : ℕ) → has_word h.buffers.beside.ram place ≡ true → (r : Sought) → Tells (ago_in b h) mark.on_hand place r →
+  pub change_only : (place : ℕ) → has_word h.buffers.beside.ram place ≡ true → (r : Option Change) → Tells (ago_in b h) mark.on_hand place r →
       r ≡ last_change_of h.buffers.beside.ram h.buffers.beside.journal mark.on_hand mark.next_slot place
   change_only place has =
       holds_only (roms_at b) p.execution_bytes p.bootstrap_bytes (world_at (reset_to b)) (boot_allowed b p) (length b.buffers.beside.journal) (net h.events) besides

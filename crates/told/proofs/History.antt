@@ -31,7 +31,8 @@ use Rattle.seek.specs.OnHand.{kth_of, held_of}
 use Rattle.seek.specs.Latest.{word_before, scan}
 use Rattle.seek.specs.Pcs.{newest, oldest}
 use Rattle.seek.specs.Seek.{has_word, writes_in, writes_of, pc_of, last_change_of, newest_at_of, oldest_at_of}
-use Rattle.seek.specs.declared.Sought.{Sought}
+use Rattle.std.specs.Prelude.{Option}
+use Rattle.seek.specs.declared.Change.{Change}
 use Rattle.told.specs.Told.{word_at, pc_at, Tells, pcs_ago}
 use Rattle.told.proofs.Tells.{aligned, change_held, newest_held, oldest_held, scan_tells, scan_only, pcs_are}
 use Rattle.told.proofs.Word.{Small, word_undone}
@@ -100,7 +101,7 @@ module _ (roms : Roms) (execution : Below 256 roms.execution) (bootstrap : Below
     holds_tells =
         subst (Tells ago c.ring.hand place) scanned (scan_tells c.ring.bytes c.ring.hand c.ring.next ago place says)
 
-    pub holds_only : (r : Sought) → Tells ago c.ring.hand place r →
+    pub holds_only : (r : Option Change) → Tells ago c.ring.hand place r →
         r ≡ last_change_of c.state.ram c.ring.bytes c.ring.hand c.ring.next place
     holds_only r told = scan_only c.ring.bytes c.ring.hand c.ring.next ago place says r told ∙ scanned
 

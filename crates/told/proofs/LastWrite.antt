@@ -27,11 +27,12 @@ use Rattle.demand3.specs.Demand3.{Call, Host, without_roms, back_next, took_to, 
 use Rattle.demand3.proofs.Boot.{frames, boot_framed}
 use Rattle.demand3.proofs.Carried.{Carried, carried_start}
 use Rattle.demand3.proofs.Demand3.{carried_all, carried_back, carried_gives}
-use Rattle.seek.specs.declared.Sought.{Sought}
-use Rattle.seek.specs.declared.Sought.TheVariants.{At, Nothing}
+use Rattle.std.specs.Prelude.{Option, Some, None}
+use Rattle.seek.specs.declared.Change.{Change}
+use Rattle.seek.specs.Latest.{change_of}
 use Rattle.lastwrite.specs.LastWrite.{word_fits, place_of, found_in, time_in, answer_words, done_of}
 use Rattle.lastwrite.proofs.Theorems as call
-use Rattle.told.specs.Told.{word_at, NoWrite, Tells, Says, ago_in, hand_in, back_at, ask_next, tell_next, TellsLast}
+use Rattle.told.specs.Told.{word_at, NoWrite, Wrote, Tells, Says, ago_in, hand_in, back_at, ask_next, tell_next, TellsLast}
 use Rattle.told.proofs.Clocks.{time_back, time_words}
 use Rattle.told.proofs.Asked.{word_there}
 use Rattle.told.proofs.Calls.{change_told}
@@ -42,11 +43,10 @@ module _ (ago : ℕ → World) (hand : ℕ) (back : ℕ → World) (place time :
     (clocked : (k : ℕ) → k < hand →
     (slot_back whole time k / 2 ^ 32 ≡ (ago k).board.clock.high) × (slot_back whole time k % 2 ^ 32 ≡ (ago k).board.clock.low))
     (taken : (k : ℕ) → k ≤ hand → back k ≡ ago k) where
-  says_found : (found : Sought) → Tells ago hand place found → (bytes : List ℕ) → bytes ≡ flat word_bytes (answer_words time found) →
-      Says ago hand back place (steps_of (done_of found)) bytes
-  says_found Nothing h bytes e = record { none = h; zeros = e }
-  says_found (At zero old new) h bytes e = absurd h
-  says_found (At (suc k) old new) h bytes e =
+  said_found : (step old new : ℕ) → Wrote ago hand place step old new → (bytes : List ℕ) → bytes ≡ flat word_bytes (answer_words time (Some (change_of step old new))) →
+      Says ago hand back place step bytes
+  said_found zero old new h bytes e = absurd h
+  said_found (suc k) old new h bytes e =
       let low : k < hand = h.within in
       let one : suc k - 1 ≡ k = omega arith in
       let clock = clocked k low in
@@ -61,14 +61,22 @@ module _ (ago : ℕ → World) (hand : ℕ) (back : ℕ → World) (place time :
         back_new = ap (λ (w : World). word_at w place) (taken k (omega arith)) ∙ sym h.after;
       }
 
-  -- no step is told exactly if none on hand changed the word
-  none_told : (found : Sought) → Tells ago hand place found → (steps_of (done_of found) ≡ 0) ↔ NoWrite ago hand place
-  none_told Nothing h = (λ e. h, λ n. refl)
-  none_told (At zero old new) h = absurd h
-  none_told (At (suc k) old new) h = (
+  says_found : (found : Option Change) → Tells ago hand place found → (bytes : List ℕ) → bytes ≡ flat word_bytes (answer_words time found) →
+      Says ago hand back place (steps_of (done_of found)) bytes
+  says_found None h bytes e = record { none = h; zeros = e }
+  says_found (Some c) h bytes e = said_found c.step c.old c.new h bytes e
+
+  some_told : (step old new : ℕ) → Wrote ago hand place step old new → (step ≡ 0) ↔ NoWrite ago hand place
+  some_told zero old new h = absurd h
+  some_told (suc k) old new h = (
     λ e. absurd (omega (arith, e)),
     λ n. absurd (h.differ (h.before ∙ n k h.within ∙ sym h.after)),
   )
+
+  -- no step is told exactly if none on hand changed the word
+  none_told : (found : Option Change) → Tells ago hand place found → (steps_of (done_of found) ≡ 0) ↔ NoWrite ago hand place
+  none_told None h = (λ e. h, λ n. refl)
+  none_told (Some c) h = some_told c.step c.old c.new h
 
 -- ---- after any calls
 

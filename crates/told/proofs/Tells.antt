@@ -16,14 +16,14 @@ use Rattle.ring.proofs.Slots.{by_leb}
 use Rattle.journal.specs.Journal.{slots_of}
 use Rattle.step.specs.World.{World}
 use Rattle.seek.specs.OnHand.{fits_in, kth_of, held_of, records_of}
-use Rattle.seek.specs.Latest.{Write, word_before, word_back, Answers, scan}
+use Rattle.seek.specs.Latest.{Write, word_before, word_back, Altered, Answers, scan}
 use Rattle.seek.specs.Pcs.{newest, oldest}
 use Rattle.seek.specs.Seek.{has_word, writes_of, pc_of, last_change_of, newest_at_of, oldest_at_of}
-use Rattle.seek.specs.declared.Sought.{Sought}
-use Rattle.seek.specs.declared.Sought.TheVariants.{At, Nothing}
+use Rattle.std.specs.Prelude.{Option, Some, None}
+use Rattle.seek.specs.declared.Change.{Change}
 use Rattle.seek.proofs.OnHand.{held_long, held_at}
 use Rattle.seek.proofs.Latest.{scan_answers, one_answer, back_more}
-use Rattle.told.specs.Told.{word_at, pc_at, Tells, pcs_ago}
+use Rattle.told.specs.Told.{word_at, pc_at, Wrote, Tells, pcs_ago}
 
 pub aligned : (ram : List ℕ) (place : ℕ) → has_word ram place ≡ true → place % 4 ≡ 0
 aligned ram place has = eqb-true (place % 4) 0 (both (eqb (place % 4) 0) (leb (place + 4) (length ram)) has).0
@@ -51,7 +51,7 @@ module _ (journal : List ℕ) (hand next : ℕ) where
         scan place (load_at 4 ram place) 0 (map writes_of (held_of journal hand next)) ≡ last_change_of ram journal hand next place
     unfolding last_change_of
     change_held ram place has =
-        ap₂ (λ (l : List (List ℕ)) (b : Bool). cond b (scan place (load_at 4 ram place) 0 (map writes_of l)) Nothing) (sym (sound_records sound)) (sym has)
+        ap₂ (λ (l : List (List ℕ)) (b : Bool). cond b (scan place (load_at 4 ram place) 0 (map writes_of l)) None) (sym (sound_records sound)) (sym has)
 
     pub newest_held : (pc : ℕ) → newest_at_of journal hand next pc ≡ newest pc 0 (map pc_of (held_of journal hand next))
     unfolding newest_at_of
@@ -84,10 +84,9 @@ module _ (journal : List ℕ) (hand next : ℕ) where
           ∙ ap (λ (ws : List Write). word_before place ws (word_back place steps present k)) (sym (held_at writes_of journal hand next k [] h))
           ∙ sym (back_more place present steps k (omega (arith, long)))
 
-      tells : (r : Sought) → Answers place steps present r → Tells ago hand place r
-      tells Nothing h = λ k l. word_back_lem (suc k) l ∙ h k (omega (arith, long)) ∙ sym (word_back_lem k (omega arith))
-      tells (At zero old new) h = h
-      tells (At (suc k) old new) h =
+      wrote : (step old new : ℕ) → Altered place steps present step old new → Wrote ago hand place step old new
+      wrote zero old new h = h
+      wrote (suc k) old new h =
           let low : k < hand = omega (arith, long, h.within) in
           record {
             within = low;
@@ -97,15 +96,16 @@ module _ (journal : List ℕ) (hand next : ℕ) where
             newer = λ j l. word_back_lem (suc j) (omega arith) ∙ h.newer j l ∙ sym (word_back_lem j (omega arith));
           }
 
+      tells : (r : Option Change) → Answers place steps present r → Tells ago hand place r
+      tells None h = λ k l. word_back_lem (suc k) l ∙ h k (omega (arith, long)) ∙ sym (word_back_lem k (omega arith))
+      tells (Some c) h = wrote c.step c.old c.new h
+
       pub scan_tells : Tells ago hand place (scan place present 0 steps)
       scan_tells = tells (scan place present 0 steps) (scan_answers place present steps)
 
-      answers : (r : Sought) → Tells ago hand place r → Answers place steps present r
-      answers Nothing h = λ k l.
-          let low : k < hand = omega (arith, long) in
-          sym (word_back_lem (suc k) low) ∙ h k low ∙ word_back_lem k (omega arith)
-      answers (At zero old new) h = h
-      answers (At (suc k) old new) h =
+      altered : (step old new : ℕ) → Wrote ago hand place step old new → Altered place steps present step old new
+      altered zero old new h = h
+      altered (suc k) old new h =
           let low : k < hand = h.within in
           record {
             within = omega (arith, long);
@@ -115,8 +115,14 @@ module _ (journal : List ℕ) (hand next : ℕ) where
             newer = λ j l. sym (word_back_lem (suc j) (omega arith)) ∙ h.newer j l ∙ word_back_lem j (omega arith);
           }
 
+      answers : (r : Option Change) → Tells ago hand place r → Answers place steps present r
+      answers None h = λ k l.
+          let low : k < hand = omega (arith, long) in
+          sym (word_back_lem (suc k) low) ∙ h k low ∙ word_back_lem k (omega arith)
+      answers (Some c) h = altered c.step c.old c.new h
+
       -- and no other answer does
-      pub scan_only : (r : Sought) → Tells ago hand place r → r ≡ scan place present 0 steps
+      pub scan_only : (r : Option Change) → Tells ago hand place r → r ≡ scan place present 0 steps
       scan_only r h = one_answer place present steps r (scan place present 0 steps) (answers r h) (scan_answers place present steps)
 
     -- ---- the PCs
@@ -138,10 +144,9 @@ module _ (ago ago' : ℕ → World) (hand : ℕ) (same : (k : ℕ) → k ≤ han
   left_same : (k place : ℕ) → k < hand → word_at (ago (suc k)) place ≡ word_at (ago k) place → word_at (ago' (suc k)) place ≡ word_at (ago' k) place
   left_same k place l e = sym (word_same (suc k) place l) ∙ e ∙ word_same k place (omega arith)
 
-  pub tells_same : (place : ℕ) (r : Sought) → Tells ago hand place r → Tells ago' hand place r
-  tells_same place Nothing h = λ k l. left_same k place l (h k l)
-  tells_same place (At zero old new) h = h
-  tells_same place (At (suc k) old new) h =
+  wrote_same : (place step old new : ℕ) → Wrote ago hand place step old new → Wrote ago' hand place step old new
+  wrote_same place zero old new h = h
+  wrote_same place (suc k) old new h =
       let low : k < hand = h.within in
       record {
         within = low;
@@ -150,3 +155,7 @@ module _ (ago ago' : ℕ → World) (hand : ℕ) (same : (k : ℕ) → k ≤ han
         differ = h.differ;
         newer = λ j l. left_same j place (omega arith) (h.newer j l);
       }
+
+  pub tells_same : (place : ℕ) (r : Option Change) → Tells ago hand place r → Tells ago' hand place r
+  tells_same place None h = λ k l. left_same k place l (h k l)
+  tells_same place (Some c) h = wrote_same place c.step c.old c.new h

@@ -1,6 +1,6 @@
 -- What seek's answers, and those of the call last_write, say of the states themselves. `ago k` is the state k steps before the present one, and `hand` of these
 -- steps are on hand.
-use Rattle.std.specs.Prelude.{ℕ, zero, suc, ◌-◌, ◌<◌, ◌≡◌, ◌≢◌, ◌↔◌, true, cond, List, [], ◌∷◌, eqb, length, replicate}
+use Rattle.std.specs.Prelude.{ℕ, zero, suc, ◌-◌, ◌<◌, ◌≡◌, ◌≢◌, ◌↔◌, true, cond, List, [], ◌∷◌, eqb, length, replicate, Option, Some, None}
 use Rattle.word.specs.Lists.{tabulate, flat}
 use Rattle.word.specs.Big.{word_bytes}
 use Rattle.memory.specs.Memory.{load_at}
@@ -9,12 +9,10 @@ use Rattle.ring.specs.Calls.{net}
 use Rattle.state.specs.Layout.{machine_of}
 use Rattle.step.specs.World.{World}
 use Rattle.run.specs.Run.{forward}
-use Rattle.answer.specs.Answer.{number_of, reason_of, steps_of}
-use Rattle.answer.specs.declared.Answer.{Answer}
+use Rattle.answer.specs.Answer.{number_of, reason_of, steps_of, Answer}
 use Rattle.accepted.specs.After.{world_from}
 use Rattle.demand3.specs.Demand3.{Host, without_roms, back_next, Boot, roms_at, reset_to, world_at}
-use Rattle.seek.specs.declared.Sought.{Sought}
-use Rattle.seek.specs.declared.Sought.TheVariants.{At, Nothing}
+use Rattle.seek.specs.declared.Change.{Change}
 use Rattle.lastwrite.specs.LastWrite.{word_fits, place_of, last_write_answer, last_write_bytes}
 
 -- the word of RAM at a place, as the machine reads it
@@ -37,11 +35,15 @@ module _ (ago : ℕ → World) (hand : ℕ) where
   abbrev pub NoWrite : ℕ → Type 0
   NoWrite place = (k : ℕ) → k < hand → word_at (ago (suc k)) place ≡ word_at (ago k) place
 
-  -- the step is counted from 1; Nothing says that no step on hand changed the word
-  abbrev pub Tells : ℕ → Sought → Type 0
-  Tells place Nothing = NoWrite place
-  Tells place (At zero old new) = ⊥
-  Tells place (At (suc k) old new) = LastWrite place k old new
+  -- the same of the step so counted from 1
+  abbrev pub Wrote : ℕ → (step old new : ℕ) → Type 0
+  Wrote place zero old new = ⊥
+  Wrote place (suc k) old new = LastWrite place k old new
+
+  -- None says that no step on hand changed the word
+  abbrev pub Tells : ℕ → Option Change → Type 0
+  Tells place None = NoWrite place
+  Tells place (Some c) = Wrote place c.step c.old c.new
 
   -- the PCs that the steps on hand were made at, the newest first
   abbrev pub pcs_ago : List ℕ

@@ -1,6 +1,7 @@
 -- Document 01: "A record is well formed exactly when its bytes keep that layout, every RAM and paper place in it lies within the lent buffers, and the image
 -- that it gives back keeps the rules below; no other reason counts."
-use Rattle.std.specs.Prelude.{◌≡◌, ℕ, ◌+◌, ◌/◌, Bool, true, not, ◌&&◌, ◌||◌, List, nat_le, nat_lt, slice_index_or}
+use Rattle.std.specs.Prelude.{◌≡◌, ℕ, ◌+◌, ◌/◌, Bool, true, not, ◌&&◌, ◌||◌, List, nat_le, nat_lt, slice_index_or, Option}
+use Rattle.std.specs.Bool.{then_some}
 use Rattle.word.specs.Lists.{every}
 use Rattle.word.specs.Map.{bit}
 use Rattle.word.specs.Sizes.{devices}
@@ -14,7 +15,6 @@ use Rattle.record.specs.declared.Saved.TheVariants.{Nothing, Register, TlbRow, R
 use Rattle.record.specs.Layout.{record_of}
 use Rattle.record.specs.Keeps.{saved_ranged, keeps_layout}
 use Rattle.undo.specs.Undo.{View, cpu_back, board_back, machine_back}
-use Rattle.undo.specs.declared.fit.Verdict.{Verdict}
 
 -- the RAM place, for RAM of so many bytes
 abbrev pub ram_place_fits : Saved → ℕ → Bool
@@ -49,7 +49,7 @@ pub record Undoable (r : Record) (ram : ℕ) : Type 0 where
   pub ranged : saved_ranged r.saved ≡ true
   pub word : ram_place_fits r.saved ram ≡ true
 
--- what the check of a record gives
-pub record CheckedIs (slot : List ℕ) (m : Machine) (ram paper : ℕ) (r : Verdict) : Type 0 where
-  pub fits_is : r.fits ≡ fit_of slot (record { cpu = m.cpu; board = m.board; ram = ram; paper = paper })
-  pub machine_is : r.fits ≡ true → r.machine ≡ machine_back (record_of slot) m
+-- what the check of a record gives: the machine before its step, if it is well formed
+abbrev pub checked_of : List ℕ → Machine → (ram paper : ℕ) → Option Machine
+checked_of slot m ram paper =
+    then_some (fit_of slot (record { cpu = m.cpu; board = m.board; ram = ram; paper = paper })) (machine_back (record_of slot) m)

@@ -18,16 +18,10 @@ fn regs_back(s: Saved, regs: [u32; 32]) -> [u32; 32]
     ensures { result ≡ regs_back s regs }
 {
     let mut back = regs;
-    match s {
-        Saved::Nothing => back,
-        Saved::Register(n, old) => {
-            let at = n as usize;
-            back[at] = old;
-            back
-        }
-        Saved::TlbRow(_, _) => back,
-        Saved::RamWord(_, _, _) => back,
+    if let Saved::Register(n, old) = s {
+        back[n as usize] = old;
     }
+    back
 }
 
 fn rows_back(s: Saved, rows: [Row; 16]) -> [Row; 16]
@@ -35,30 +29,18 @@ fn rows_back(s: Saved, rows: [Row; 16]) -> [Row; 16]
     ensures { result ≡ rows_back s rows }
 {
     let mut back = rows;
-    match s {
-        Saved::Nothing => back,
-        Saved::Register(_, _) => back,
-        Saved::TlbRow(i, row) => {
-            let at = i as usize;
-            back[at] = row;
-            back
-        }
-        Saved::RamWord(_, _, _) => back,
+    if let Saved::TlbRow(i, row) = s {
+        back[i as usize] = row;
     }
+    back
 }
 
 fn ram_back(s: Saved, ram: &mut [u8])
     requires { ram_place_fits s (length ram.old) ≡ true }
     ensures { ram.new ≡ ram_back s ram.old }
 {
-    match s {
-        Saved::Nothing => {}
-        Saved::Register(_, _) => {}
-        Saved::TlbRow(_, _) => {}
-        Saved::RamWord(place, old, _) => {
-            let at = place as usize;
-            store_word(ram, at, old)
-        }
+    if let Saved::RamWord(place, old, _) = s {
+        store_word(ram, place as usize, old);
     }
 }
 
@@ -67,7 +49,7 @@ fn clock_back(c: Clock, timer: u32) -> Clock
     ensures { result ≡ clock_back timer c }
 {
     let time = (c.high as u64) * 0x1_0000_0000 + c.low as u64;
-    let before = std::num::wrapping_sub_u64(time, 1);
+    let before = time.wrapping_sub(1);
     Clock {
         high: (before / 0x1_0000_0000) as u32,
         low: (before % 0x1_0000_0000) as u32,
@@ -79,28 +61,24 @@ fn cpu_back(r: Record, c: Cpu) -> Cpu
     requires { saved_ranged r.saved ≡ true }
     ensures { result ≡ cpu_back r c }
 {
-    let s = r.saved;
-    let core = r.core;
-    let old = c.regs;
-    let regs = regs_back(s, old);
-    let rows = c.tlb;
-    let tlb = rows_back(s, rows);
-    Cpu { regs, core, tlb }
+    Cpu {
+        regs: regs_back(r.saved, c.regs),
+        core: r.core,
+        tlb: rows_back(r.saved, c.tlb),
+    }
 }
 
 fn board_back(r: Record, b: Board) -> Board
     ensures { result ≡ board_back r b }
 {
     let printers = r.printers;
-    let clock = clock_back(b.clock, r.timer);
-    let settings = b.settings;
     Board {
-        clock,
-        settings,
+        clock: clock_back(b.clock, r.timer),
         line: Line {
             printers,
             pending: r.pending,
         },
+        ..b
     }
 }
 
@@ -109,13 +87,10 @@ pub fn machine_back(r: Record, m: Machine) -> Machine
     requires { saved_ranged r.saved ≡ true }
     ensures { result ≡ machine_back r m }
 {
-    let cpu = cpu_back(r, m.cpu);
-    let board = board_back(r, m.board);
-    let journal = m.journal;
     Machine {
-        cpu,
-        board,
-        journal,
+        cpu: cpu_back(r, m.cpu),
+        board: board_back(r, m.board),
+        ..m
     }
 }
 
@@ -125,10 +100,7 @@ pub fn undo(r: Record, m: Machine, ram: &mut [u8], paper: &mut [u8]) -> Machine
     ensures { (result ≡ machine_back r m)
         × (world_in result ram.new paper.new ≡ undo_of r (world_in m ram.old paper.old)) }
 {
-    let s = r.saved;
-    let kept = r.paper;
-    let before = r.printers;
-    ram_back(s, ram);
-    restore_paper(kept, before, paper);
+    ram_back(r.saved, ram);
+    restore_paper(r.paper, r.printers, paper);
     machine_back(r, m)
 }

@@ -5,15 +5,12 @@ use Prim.Native.Nat.{ℕ}
 use native.Mathlib.Omega.{arith}
 use borrow.Author.Tests.{eq-eqb}
 use lib.ListN.{length}
-use Rattle.answer.specs.declared.Answer.TheVariants.{Done}
+use Rattle.answer.specs.Answer.{done_with}
 use Rattle.answer.specs.declared.Reason.TheVariants.{NoReason}
 use Rattle.accepted.specs.Left.{left_of}
 use Rattle.turn.specs.Buffers.{buffers_back}
 use Rattle.backward.proofs.Backing.{few_steps, tried_done}
 use Rattle.backward.proofs.done.Goals as goal
-
-pub take_back-after-requires : goal.take_back-after-requires
-take_back-after-requires c = record { fits = c.requires.fits; journal_value = c.requires.journal_value }
 
 pub overflow_cast-result : goal.overflow_cast-result
 overflow_cast-result c =
@@ -25,6 +22,6 @@ returns c =
     let a = c.args in
     let new = c.take_back-after.new in
     let each = eq-eqb (length a.index.now) _ c.requires.fits.framed.sixteen_each in
-    ap (λ (image : List ℕ). left_of (Done a.steps NoReason) (buffers_back image new.ram new.paper a.journal.now new.index)) c.encode.ensures
+    ap (λ (image : List ℕ). left_of (done_with a.steps NoReason) (buffers_back image new.ram new.paper a.journal.now new.index)) c.encode.ensures
     ∙ tried_done (buffers_back a.image.now a.ram.now a.paper.now a.journal.now a.index.now) a.steps c.requires.machine_value c.requires.journal_value each
     c.take_back-after.result _ _ _ c.take_back-after.ensures

@@ -3,9 +3,6 @@ use Rattle.turn.specs.Buffers.{buffers_of}
 use Rattle.forward.proofs.Running.{done_is}
 use Rattle.forward.proofs.done.Goals as goal
 
-pub encode-requires : goal.encode-requires
-encode-requires c = c.requires.image_len
-
 pub returns : goal.returns
 returns c =
     let a = c.args in

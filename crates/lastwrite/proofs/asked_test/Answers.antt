@@ -1,27 +1,20 @@
 -- `lastwrite::asked_test` meets its contract: one return for each answer.
 use Rattle.std.proofs.Common.{sym, ap, ◌∙◌}
+use Rattle.std.proofs.lemmas.Result.{err_from_is_err_and}
 use Rattle.back.specs.Back.{how_of}
 use Rattle.turn.specs.Buffers.{Beside, beside_back}
-use Rattle.lastwrite.proofs.Answers.{never_far, asked_bad, asked_rest}
+use Rattle.lastwrite.proofs.Answers.{asked_fault, asked_rest}
 use Rattle.lastwrite.proofs.asked_test.Goals as goal
 
-pub asked-requires : goal.asked-requires
-asked-requires c = record { paper_bound = c.requires.judged.short; ready = c.requires.judged.ready }
-
-pub returns-in-TooFar : goal.returns-in-TooFar
-returns-in-TooFar c =
+pub returns-in_err-asked : goal.returns-in_err-asked
+returns-in_err-asked c =
     let a = c.args in
     let lent : Beside = beside_back a.ram.now a.paper.now a.journal.now a.index.now in
-    absurd (never_far a.machine lent (ap how_of (sym c.in-TooFar.is) ∙ c.asked.ensures))
+    let p = err_from_is_err_and c.from_residual.result c.from_residual.ensures.1 in
+    rw (p.1, p.2) (asked_fault a.machine lent a.address a.room _ (ap how_of (sym c.in_err-asked.was) ∙ c.asked.ensures))
 
-pub returns-in-Bad : goal.returns-in-Bad
-returns-in-Bad c =
+pub returns : goal.returns
+returns c =
     let a = c.args in
     let lent : Beside = beside_back a.ram.now a.paper.now a.journal.now a.index.now in
-    asked_bad a.machine lent a.address a.room (ap how_of (sym c.in-Bad.is) ∙ c.asked.ensures)
-
-pub returns-in-Done : goal.returns-in-Done
-returns-in-Done c =
-    let a = c.args in
-    let lent : Beside = beside_back a.ram.now a.paper.now a.journal.now a.index.now in
-    c.rest_test.ensures ∙ asked_rest a.machine lent a.address a.room (ap how_of (sym c.in-Done.is) ∙ c.asked.ensures)
+    c.rest_test.ensures ∙ asked_rest a.machine lent a.address a.room (ap how_of (sym c.in_ok-asked.was) ∙ c.asked.ensures)

@@ -3,9 +3,6 @@ use Rattle.std.proofs.Common.{ℕ, ap, ◌∙◌}
 use Rattle.seek.specs.Seek.{last_change_of}
 use Rattle.lastwrite.proofs.found_by.Goals as goal
 
-pub place_of-requires : goal.place_of-requires
-place_of-requires c = c.requires
-
 pub returns : goal.returns
 returns c =
     let a = c.args in

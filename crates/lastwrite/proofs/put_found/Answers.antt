@@ -8,9 +8,6 @@ use Rattle.lastwrite.specs.LastWrite.{answer_words}
 use Rattle.lastwrite.proofs.Answers.{words_long}
 use Rattle.lastwrite.proofs.put_found.Goals as goal
 
-pub answer_words-words-requires : goal.answer_words-words-requires
-answer_words-words-requires c = c.requires.counted
-
 pub returns : goal.returns
 returns c =
     let a = c.args in

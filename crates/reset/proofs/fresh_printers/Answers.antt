@@ -16,11 +16,11 @@ loop-k-preserved c =
     let installed = c.args.installed in (
       omega arith,
       rw (c.fresh_printer.ensures, c.has_bit.ensures)
-          (fill_step (λ (i : ℕ). fresh_printer (bit i installed)) _ l.printers l.k (omega arith) l.invariant.1),
+          (fill_step (λ (i : ℕ). fresh_printer (bit i installed)) _ l.printer-items l.k (omega arith) l.invariant.1),
     )
 
 pub returns : goal.returns
 returns c =
     let l = c.loop-k in
     let installed = c.args.installed in
-    fill_end (λ (i : ℕ). fresh_printer (bit i installed)) _ l.printers l.k (omega arith) l.invariant.1
+    fill_end (λ (i : ℕ). fresh_printer (bit i installed)) _ l.printer-items l.k (omega arith) l.invariant.1

@@ -10,7 +10,7 @@ use Rattle.reset.proofs.fresh_printers.Given as goal
 
 abbrev pub invariant-loop-k : goal.invariant-loop-k
 invariant-loop-k l =
-    (l.k ≤ 8) × (l.printers ≡ tabulate l.k (λ (i : ℕ). fresh_printer (bit i l.installed)) ++ drop l.k l.initial.printers)
+    (l.k ≤ 8) × (l.printer-items ≡ tabulate l.k (λ (i : ℕ). fresh_printer (bit i l.installed)) ++ drop l.k l.initial.printer-items)
 
 abbrev pub decreases-loop-k : goal.decreases-loop-k
 decreases-loop-k l = 8 - l.k

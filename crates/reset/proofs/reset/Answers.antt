@@ -4,16 +4,16 @@ use mathlib.Core.List.{List}
 use native.Mathlib.Omega.{arith}
 use Prim.Native.Nat.{ℕ}
 use Rattle.answer.specs.declared.Refusal.{Refusal}
-use Rattle.answer.specs.declared.Answer.{Answer}
-use Rattle.answer.specs.declared.Answer.TheVariants.{Refused}
+use Rattle.std.specs.Prelude.{Err}
+use Rattle.answer.specs.Answer.{Answer}
 use Rattle.state.specs.Layout.{bytes_of}
 use Rattle.reset.specs.Reset.{reset_answer, image_after, index_after, ResetIs}
 use Rattle.reset.proofs.Answers.{says_bad_length, says_bad_range, says_bad_index, says_done, in_range}
 use Rattle.reset.proofs.reset.Goals as goal
 
 -- a refusal, with nothing written
-refused : (image index : List ℕ) (scale delay installed : ℕ) (refusal : Refusal) → reset_answer image index scale delay installed ≡ Refused refusal →
-    ResetIs image index scale delay installed (Refused refusal) image index
+refused : (image index : List ℕ) (scale delay installed : ℕ) (refusal : Refusal) → reset_answer image index scale delay installed ≡ Err refusal →
+    ResetIs image index scale delay installed (Err refusal) image index
 refused image index scale delay installed refusal e =
     record {
       answer_is = sym e;

@@ -1,10 +1,6 @@
 -- `seek::newest` meets its contract. The invariant is `Passed`: no record passed is at the PC.
-use Prim.Native.Nat.{◌-◌}
 use Rattle.seek.proofs.Loops.{Passed}
 use Rattle.seek.proofs.newest.Given as goal
 
 abbrev pub invariant-loop-k : goal.invariant-loop-k
 invariant-loop-k l = Passed l.journal l.hand l.next l.pc l.k
-
-abbrev pub decreases-loop-k : goal.decreases-loop-k
-decreases-loop-k l = l.hand - l.k

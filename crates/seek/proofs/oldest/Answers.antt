@@ -2,14 +2,14 @@
 use Rattle.seek.proofs.Loops.{remaining_start, remaining_more, remaining_stops, remaining_ends}
 use Rattle.seek.proofs.oldest.Goals as goal
 
-pub loop-left-init : goal.loop-left-init
-loop-left-init c = remaining_start _ _ _ _
+pub loop-k-init : goal.loop-k-init
+loop-k-init c = remaining_start _ _ _ _
 
 pub returns-then-pc_at-pc : goal.returns-then-pc_at-pc
-returns-then-pc_at-pc c = remaining_stops _ _ _ c.loop-left.invariant c.loop-left-test.true c.pc_at.result c.pc_at.ensures c.if-pc_at-pc.true
+returns-then-pc_at-pc c = remaining_stops _ _ _ c.loop-k.invariant c.loop-k-test.true c.pc_at.result c.pc_at.ensures c.if-pc_at-pc.true
 
-pub loop-left-preserved : goal.loop-left-preserved
-loop-left-preserved c = remaining_more _ _ _ c.loop-left.invariant c.loop-left-test.true c.pc_at.result c.pc_at.ensures c.if-pc_at-pc.false
+pub loop-k-preserved : goal.loop-k-preserved
+loop-k-preserved c = remaining_more _ _ _ c.loop-k.invariant c.loop-k-test.true c.pc_at.result c.pc_at.ensures c.if-pc_at-pc.false
 
 pub returns : goal.returns
-returns c = remaining_ends _ _ _ c.loop-left.invariant c.loop-left-test.false
+returns c = remaining_ends _ _ _ c.loop-k.invariant c.loop-k-test.false

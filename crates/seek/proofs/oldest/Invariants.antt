@@ -2,8 +2,5 @@
 use Rattle.seek.proofs.Loops.{Remaining}
 use Rattle.seek.proofs.oldest.Given as goal
 
-abbrev pub invariant-loop-left : goal.invariant-loop-left
-invariant-loop-left l = Remaining l.journal l.hand l.next l.pc l.left
-
-abbrev pub decreases-loop-left : goal.decreases-loop-left
-decreases-loop-left l = l.left
+abbrev pub invariant-loop-k : goal.invariant-loop-k
+invariant-loop-k l = Remaining l.journal l.hand l.next l.pc l.k

@@ -26,12 +26,6 @@ undo_slot-before-requires c =
       undoable = undoing_tells inv c.loop-j-test.true c.slot_back-at.result c.slot_back-at.ensures.0 c.requires.paper_value;
     }
 
-pub overflow_add-j-in-loop-j : goal.overflow_add-j-in-loop-j
-overflow_add-j-in-loop-j c = omega (arith, c)
-
-pub loop-j-smaller : goal.loop-j-smaller
-loop-j-smaller c = omega (arith, c)
-
 pub loop-j-preserved : goal.loop-j-preserved
 loop-j-preserved c =
     let is = c.undo_slot-before.ensures in

@@ -2,8 +2,5 @@
 use Rattle.std.proofs.Common.{ltb-true}
 use Rattle.undo.proofs.back.rows_back.Goals as goal
 
-pub bounds-back-at : goal.bounds-back-at
-bounds-back-at c = ltb-true _ _ (rw c.in-TlbRow.is at c.requires)
-
-pub returns-in-TlbRow : goal.returns-in-TlbRow
-returns-in-TlbRow c = rw c.in-TlbRow.is
+pub bounds-back-i : goal.bounds-back-i
+bounds-back-i c = ltb-true _ _ (rw c.in-TlbRow.is at c.requires)

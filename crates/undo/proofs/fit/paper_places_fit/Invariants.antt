@@ -5,7 +5,4 @@ use Rattle.undo.specs.Fit.{paper_place_fits}
 use Rattle.undo.proofs.fit.paper_places_fit.Given as goal
 
 abbrev pub invariant-loop-n : goal.invariant-loop-n
-invariant-loop-n l = (l.n ≤ 8) × (l.ok ≡ every l.n (paper_place_fits l.mask l.printers l.paper))
-
-abbrev pub decreases-loop-n : goal.decreases-loop-n
-decreases-loop-n l = 8 - l.n
+invariant-loop-n l = (l.n ≤ 8) × (l.ok ≡ every l.n (paper_place_fits l.mask l.p-items l.paper))
