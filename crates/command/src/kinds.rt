@@ -27,6 +27,4 @@ pub enum Command {
     Quit,
     Abandon,
     Help(Topic),
-    // The place of the first byte that fits nothing; the line's length where it is cut short.
-    Refused(usize),
 }

@@ -1,7 +1,5 @@
 // A line as a command.
 ghost use Rattle.std.specs.Prelude.{◌≡◌};
-ghost use Rattle.forms.specs.Fresh.{making_of};
-ghost use Rattle.forms.specs.Look.{looking_of};
 ghost use Rattle.command.specs.Line.{command_of, said_of, asked_of, name_behind};
 
 use crate::kinds::Command;
@@ -11,17 +9,19 @@ use forms::fresh::making;
 use forms::kinds::Span;
 use forms::look::looking;
 use piece::behind::named;
-use piece::mark::{Mark, Named, behind_spaces, stands, word};
+use piece::mark::{Mark, behind_spaces, stands, word};
 
-pub fn command(line: &[u8]) -> Command
+// Where it is none, the place of the first byte that fits nothing; the line's length where it is cut short.
+#[tactic(auto, unfolding(crate::specs::Line::command_of))]
+pub fn command(line: &[u8]) -> Result<Command, usize>
     ensures { result ≡ command_of line.now }
 {
     let at = behind_spaces(line, 0);
     if line.len() <= at {
-        return Command::Nothing;
+        return Ok(Command::Nothing);
     }
     if stands(line, at, b'#') {
-        return Command::Nothing;
+        return Ok(Command::Nothing);
     }
     let start = Mark {
         at,
@@ -31,14 +31,13 @@ pub fn command(line: &[u8]) -> Command
     said(line, start, forms(line, start))
 }
 
-fn said(line: &[u8], start: Mark, reading: Reading) -> Command
+fn said(line: &[u8], start: Mark, reading: Reading) -> Result<Command, usize>
     ensures { result ≡ said_of line.now start reading }
 {
-    if reading.mark.fits {
-        let form = reading.form;
-        return asked(line, start, form, reading.value);
+    if !reading.mark.fits {
+        return Err(reading.mark.reached);
     }
-    Command::Refused(reading.mark.reached)
+    Ok(asked(line, start, reading.form, reading.value))
 }
 
 // The command of a form that fits, with the number that it holds.
@@ -46,7 +45,7 @@ fn asked(line: &[u8], start: Mark, form: Form, value: u64) -> Command
     ensures { result ≡ asked_of line.now start form value }
 {
     match form {
-        Form::New => new(line, start),
+        Form::New => Command::New(making(line, start).value),
         Form::Load => Command::Load(name_behind(line, start, b"load"), value),
         Form::Compare => Command::Compare(name_behind(line, start, b"compare")),
         Form::Save => Command::Save,
@@ -67,34 +66,14 @@ fn asked(line: &[u8], start: Mark, form: Form, value: u64) -> Command
         Form::Station => Command::Station,
         Form::Paper => Command::Paper(value),
         Form::Papers => Command::Papers,
-        Form::Examine => examine(line, start, b"x", false),
-        Form::Physical => examine(line, start, b"xp", true),
+        Form::Examine => Command::Examine(looking(line, start, b"x", false).value),
+        Form::Physical => Command::Examine(looking(line, start, b"xp", true).value),
         Form::Help(topic) => Command::Help(topic),
     }
-}
-
-fn new(line: &[u8], start: Mark) -> Command
-    ensures { result ≡ Command.New (making_of line.now start).fresh }
-{
-    let made = making(line, start);
-    let fresh = made.fresh;
-    Command::New(fresh)
-}
-
-fn examine(line: &[u8], start: Mark, name: &[u8], physical: bool) -> Command
-    ensures { result ≡ Command.Examine (looking_of line.now start name.now physical).look }
-{
-    let seen = looking(line, start, name, physical);
-    let look = seen.look;
-    Command::Examine(look)
 }
 
 fn name_behind(line: &[u8], start: Mark, first: &[u8]) -> Span
     ensures { result ≡ name_behind line.now start first.now }
 {
-    let n = named(line, word(line, start, first));
-    Span {
-        from: n.from,
-        to: n.to,
-    }
+    named(line, word(line, start, first)).value
 }

@@ -11,8 +11,7 @@ use forms::look::looking;
 use piece::behind::{counted, named, past};
 use piece::mark::{Mark, end, word};
 
-const NO_END: u64 = 0xFFFF_FFFF_FFFF_FFFF;
-
+#[tactic(auto, unfolding(crate::specs::Table::forms_of))]
 pub fn forms(line: &[u8], m: Mark) -> Reading
     ensures { result ≡ forms_of line.now m }
 {
@@ -24,6 +23,7 @@ pub fn forms(line: &[u8], m: Mark) -> Reading
 }
 
 // What begins, fills, keeps and ends a station.
+#[tactic(auto, unfolding(crate::specs::Table::station_of))]
 fn station(line: &[u8], m: Mark) -> Reading
     ensures { result ≡ station_of line.now m }
 {
@@ -36,6 +36,7 @@ fn station(line: &[u8], m: Mark) -> Reading
     or_plain(r, line, m, b"abandon", Form::Abandon, 0)
 }
 
+#[tactic(auto, unfolding(crate::specs::Table::forward_of))]
 fn forward(line: &[u8], m: Mark) -> Reading
     ensures { result ≡ forward_of line.now m }
 {
@@ -44,15 +45,24 @@ fn forward(line: &[u8], m: Mark) -> Reading
     or_times(r, line, m, b"si", Form::Step)
 }
 
+#[tactic(auto, unfolding(crate::specs::Table::runs_of))]
 fn runs(line: &[u8], m: Mark) -> Reading
     ensures { result ≡ runs_of line.now m }
 {
     let r = numbered(line, m, b"run", Form::Run);
     let behind = past(line, m, b"run");
-    let r = or_plain(r, line, behind, b"exception", Form::RunToException, NO_END);
+    let r = or_plain(
+        r,
+        line,
+        behind,
+        b"exception",
+        Form::RunToException,
+        u64::MAX,
+    );
     or_numbered(r, line, behind, b"exception", Form::RunToException)
 }
 
+#[tactic(auto, unfolding(crate::specs::Table::backward_of))]
 fn backward(line: &[u8], m: Mark) -> Reading
     ensures { result ≡ backward_of line.now m }
 {
@@ -63,6 +73,7 @@ fn backward(line: &[u8], m: Mark) -> Reading
     or_numbered(r, line, m, b"before", Form::Before)
 }
 
+#[tactic(auto, unfolding(crate::specs::Table::views_of))]
 fn views(line: &[u8], m: Mark) -> Reading
     ensures { result ≡ views_of line.now m }
 {
@@ -74,6 +85,7 @@ fn views(line: &[u8], m: Mark) -> Reading
 }
 
 // Behind `info`.
+#[tactic(auto, unfolding(crate::specs::Table::infos_of))]
 fn infos(line: &[u8], m: Mark) -> Reading
     ensures { result ≡ infos_of line.now m }
 {
@@ -89,13 +101,7 @@ fn infos(line: &[u8], m: Mark) -> Reading
 fn new(line: &[u8], m: Mark) -> Reading
     ensures { result ≡ judged Form.New (making_of line.now m).mark }
 {
-    let made = making(line, m);
-    let mark = made.mark;
-    Reading {
-        mark,
-        form: Form::New,
-        value: 0,
-    }
+    judged(Form::New, making(line, m).mark)
 }
 
 fn load(line: &[u8], m: Mark) -> Reading
@@ -103,9 +109,8 @@ fn load(line: &[u8], m: Mark) -> Reading
 {
     let file = named(line, word(line, m, b"load"));
     let address = counted(line, file.mark);
-    let mark = address.mark;
     Reading {
-        mark,
+        mark: address.mark,
         form: Form::Load,
         value: address.value,
     }
@@ -115,19 +120,19 @@ fn compare(line: &[u8], m: Mark) -> Reading
     ensures { result ≡ compare_of line.now m }
 {
     let folder = named(line, word(line, m, b"compare"));
-    let mark = end(line, folder.mark);
-    Reading {
-        mark,
-        form: Form::Compare,
-        value: 0,
-    }
+    judged(Form::Compare, end(line, folder.mark))
 }
 
 fn examine(line: &[u8], m: Mark, name: &[u8], physical: bool, form: Form) -> Reading
     ensures { result ≡ judged form (looking_of line.now m name.now physical).mark }
 {
-    let seen = looking(line, m, name, physical);
-    let mark = seen.mark;
+    judged(form, looking(line, m, name, physical).mark)
+}
+
+// A form that is only judged here: what it holds is read where it counts.
+fn judged(form: Form, mark: Mark) -> Reading
+    ensures { result ≡ judged form mark }
+{
     Reading {
         mark,
         form,

@@ -1,5 +1,2 @@
-pub mod Best
-pub mod Settings
-pub mod Shapes
-pub mod Making
 pub mod LocalLook
+pub mod Letters

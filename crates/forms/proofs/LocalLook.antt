@@ -8,11 +8,14 @@ use native.Mathlib.Omega.{arith}
 use lib.ListN.{length}
 use Rattle.text.specs.Number.{decimal_at, number_of}
 use Rattle.text.specs.declared.found.Number.{Number}
-use Rattle.text.specs.declared.found.Number.TheVariants.{Value, TooLarge, Nothing}
+use Rattle.text.specs.declared.found.NoNumber.{NoNumber}
+use Rattle.text.specs.declared.found.NoNumber.TheVariants.{TooLarge, Nothing}
+use Rattle.std.specs.Prelude.{Result, Ok, Err}
 use Rattle.text.proofs.Beginnings.{Within, decimal_same, place_in, decimal_later}
 use Rattle.text.proofs.Decimals.{decimal_nothing, decimal_large}
 use Rattle.piece.specs.Mark.{word_of}
 use Rattle.piece.specs.declared.mark.Mark.{Mark}
+use Rattle.piece.specs.declared.mark.Found.{Found}
 use Rattle.piece.proofs.Local.{Local, Outcome, goes, fails, place_of, applied, step_of, then_local, local_by, step_local}
 use Rattle.piece.proofs.LocalPieces.{gap_local, end_local, word_local, number_local}
 use Rattle.piece.proofs.LocalByte.{stay_local, tried_local}
@@ -20,8 +23,8 @@ use Rattle.forms.specs.Words as words
 use Rattle.forms.specs.Look.{times_of, format_of, unit_of, behind_of, shape_of, looking_of}
 use Rattle.forms.specs.declared.kinds.Format.TheVariants.{Hex}
 use Rattle.forms.specs.declared.kinds.Unit.TheVariants.{Word}
-use Rattle.forms.specs.declared.look.Faced.{Faced}
-use Rattle.forms.specs.declared.look.Sized.{Sized}
+use Rattle.forms.specs.declared.kinds.Format.{Format}
+use Rattle.forms.specs.declared.kinds.Unit.{Unit as Size}
 
 -- ---- the definitions, by what they leave of the mark: a letter, or none
 letter_or : ℕ → (List ℕ → Mark → Mark) → List ℕ → Mark → Mark
@@ -44,27 +47,27 @@ module _ (l : List ℕ) (m : Mark) where
   unfolding format_of none
   format_is = lettered mark_in 120 _ _ _ refl (lettered mark_in 100 _ _ _ refl (lettered mark_in 117 _ _ _ refl (lettered mark_in 99 _ _ _ refl refl)))
     where
-      mark_in : Faced → Mark
+      mark_in : Found Format → Mark
       mark_in x = x.mark
 
   unit_is : (unit_of l m).mark ≡ letter_or 98 (letter_or 104 (letter_or 119 none)) l m
   unfolding unit_of none
   unit_is = lettered mark_in 98 _ _ _ refl (lettered mark_in 104 _ _ _ refl (lettered mark_in 119 _ _ _ refl refl))
     where
-      mark_in : Sized → Mark
+      mark_in : Found Size → Mark
       mark_in x = x.mark
 
 -- ---- a count, or none
-ran_of : ℕ → Number → Outcome
-ran_of at (Value v next) = goes next
-ran_of at (TooLarge place) = fails place
-ran_of at (Nothing place) = goes at
+ran_of : ℕ → Result Number NoNumber → Outcome
+ran_of at (Ok n) = goes n.to
+ran_of at (Err (TooLarge place)) = fails place
+ran_of at (Err (Nothing place)) = goes at
 
-ran : (m : Mark) → m.fits ≡ true → (n : Number) → (times_of m n).mark ≡ applied (ran_of m.at n) m
+ran : (m : Mark) → m.fits ≡ true → (n : Result Number NoNumber) → (times_of m n).mark ≡ applied (ran_of m.at n) m
 unfolding ran_of
-ran m e (Value v next) = refl
-ran m e (TooLarge place) = refl
-ran m e (Nothing place) = ap (λ b. record { at = m.at; fits = b; reached = m.reached }) e
+ran m e (Ok n) = refl
+ran m e (Err (TooLarge place)) = refl
+ran m e (Err (Nothing place)) = ap (λ b. record { at = m.at; fits = b; reached = m.reached }) e
 
 times_in : List ℕ → Mark → Mark
 times_in l m = step_of (ran_of m.at (decimal_at l m.at)) m
@@ -102,24 +105,24 @@ module _ (c t t' : List ℕ) where
   unit_local = local_by _ _ unit_is (letter 98 (letter 104 (letter 119 alone)))
 
   -- no number that begins within the common beginning is too large
-  module _ (small : (at place : ℕ) → number_of (c ++ t) at ≡ TooLarge place → place < length c → ⊥) where
+  module _ (small : (at place : ℕ) → number_of (c ++ t) at ≡ Err (TooLarge place) → place < length c → ⊥) where
     times_later : (at : ℕ) → at ≤ place_of (ran_of at (decimal_at (c ++ t) at))
     unfolding ran_of
     times_later at = go (decimal_at (c ++ t) at) (decimal_later (c ++ t) at)
       where
-        go : (n : Number) → at ≤ place_in n → at ≤ place_of (ran_of at n)
-        go (Value v next) h = h
-        go (TooLarge place) h = h
-        go (Nothing place) h = le_refl at
+        go : (n : Result Number NoNumber) → at ≤ place_in n → at ≤ place_of (ran_of at n)
+        go (Ok n) h = h
+        go (Err (TooLarge place)) h = h
+        go (Err (Nothing place)) h = le_refl at
 
     times_told : (at : ℕ) → place_of (ran_of at (decimal_at (c ++ t) at)) < length c → ran_of at (decimal_at (c ++ t') at) ≡ ran_of at (decimal_at (c ++ t) at)
     unfolding ran_of
     times_told at h = ap (ran_of at) (decimal_same c t t' at (within (decimal_at (c ++ t) at) refl h))
       where
-        within : (n : Number) → decimal_at (c ++ t) at ≡ n → place_of (ran_of at n) < length c → Within (length c) n
-        within (Value v next) e h = h
-        within (TooLarge place) e h = small at place (decimal_large (c ++ t) at place e) h
-        within (Nothing place) e h = let there : place ≡ at = decimal_nothing (c ++ t) at place e in omega arith
+        within : (n : Result Number NoNumber) → decimal_at (c ++ t) at ≡ n → place_of (ran_of at n) < length c → Within (length c) n
+        within (Ok n) e h = h
+        within (Err (TooLarge place)) e h = small at place (decimal_large (c ++ t) at place e) h
+        within (Err (Nothing place)) e h = let there : place ≡ at = decimal_nothing (c ++ t) at place e in omega arith
 
     times_local : Local c t t' times_in
     unfolding times_in

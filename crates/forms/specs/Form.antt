@@ -3,7 +3,7 @@ use Rattle.std.specs.Prelude.{cond, List, [], ◌∷◌, ℕ, ltb}
 use Rattle.piece.specs.Mark.{end_of, word_of}
 use Rattle.piece.specs.Behind.{counted_of}
 use Rattle.piece.specs.declared.mark.Mark.{Mark}
-use Rattle.piece.specs.declared.mark.Count.{Count}
+use Rattle.piece.specs.declared.mark.Found.{Found}
 use Rattle.forms.specs.declared.form.Form.{Form}
 use Rattle.forms.specs.declared.form.Reading.{Reading}
 
@@ -20,7 +20,7 @@ abbrev pub plain_of : List ℕ → Mark → List ℕ → Form → ℕ → Readin
 plain_of line m first form value = record { mark = end_of line (word_of line m first); form = form; value = value }
 
 -- a word and a number
-abbrev pub with_number : Form → Count → Reading
+abbrev pub with_number : Form → Found ℕ → Reading
 with_number form n = record { mark = n.mark; form = form; value = n.value }
 
 abbrev pub numbered_of : List ℕ → Mark → List ℕ → Form → Reading

@@ -102,24 +102,3 @@ help = 104 ∷ 101 ∷ 108 ∷ 112 ∷ []
 
 abbrev pub slash : List ℕ
 slash = 47 ∷ []
-
-abbrev pub letter_x : List ℕ
-letter_x = 120 ∷ []
-
-abbrev pub letter_d : List ℕ
-letter_d = 100 ∷ []
-
-abbrev pub letter_u : List ℕ
-letter_u = 117 ∷ []
-
-abbrev pub letter_c : List ℕ
-letter_c = 99 ∷ []
-
-abbrev pub letter_b : List ℕ
-letter_b = 98 ∷ []
-
-abbrev pub letter_h : List ℕ
-letter_h = 104 ∷ []
-
-abbrev pub letter_w : List ℕ
-letter_w = 119 ∷ []

@@ -44,6 +44,7 @@ pub struct Reading {
 }
 
 // The one that fits; where none does, the one that fits further.
+#[tactic(auto, unfolding(crate::specs::Form::better_of))]
 pub fn better(a: Reading, b: Reading) -> Reading
     ensures { result ≡ better_of a b }
 {

@@ -4,15 +4,10 @@ ghost use Rattle.forms.specs.Fresh.{making_of, setting_of, file_of};
 
 use crate::kinds::{Fresh, Span};
 use piece::behind::named;
-use piece::mark::{Count, Mark, Named, end, gap, number, word};
+use piece::mark::{Found, Mark, end, gap, number, word};
 
-#[derive(Clone, Copy)]
-pub struct Made {
-    pub mark: Mark,
-    pub fresh: Fresh,
-}
-
-pub fn making(line: &[u8], m: Mark) -> Made
+#[tactic(auto, unfolding(crate::specs::Fresh::making_of, crate::specs::Fresh::after_ram, crate::specs::Fresh::after_paper, crate::specs::Fresh::after_journal, crate::specs::Fresh::after_scale, crate::specs::Fresh::after_delay, crate::specs::Fresh::after_printers, crate::specs::Fresh::after_execution))]
+pub fn making(line: &[u8], m: Mark) -> Found<Fresh>
     ensures { result ≡ making_of line.now m }
 {
     let ram = setting(line, word(line, m, b"new"), b"ram", 64);
@@ -21,50 +16,45 @@ pub fn making(line: &[u8], m: Mark) -> Made
     let scale = setting(line, journal.mark, b"scale", 1);
     let delay = setting(line, scale.mark, b"delay", 100);
     let printers = setting(line, delay.mark, b"printers", 1);
-    let first = file(line, printers.mark, b"execution");
-    let second = file(line, first.mark, b"bootstrap");
-    let mark = end(line, second.mark);
-    let execution = Span {
-        from: first.from,
-        to: first.to,
-    };
-    let bootstrap = Span {
-        from: second.from,
-        to: second.to,
-    };
-    let fresh = Fresh {
+    let execution = file(line, printers.mark, b"execution");
+    let bootstrap = file(line, execution.mark, b"bootstrap");
+    let value = Fresh {
         ram: ram.value,
         paper: paper.value,
         journal: journal.value,
         scale: scale.value,
         delay: delay.value,
         printers: printers.value,
-        execution,
-        bootstrap,
+        execution: execution.value,
+        bootstrap: bootstrap.value,
     };
-    Made { mark, fresh }
+    Found {
+        value,
+        mark: end(line, bootstrap.mark),
+    }
 }
 
 // A word and a number, or neither and the value that the setting has then.
-fn setting(line: &[u8], m: Mark, keyword: &[u8], or: u64) -> Count
+#[tactic(auto, unfolding(crate::specs::Fresh::setting_of))]
+fn setting(line: &[u8], m: Mark, keyword: &[u8], or: u64) -> Found<u64>
     ensures { result ≡ setting_of line.now m keyword.now or }
 {
     let tried = word(line, gap(line, m), keyword);
     if tried.fits {
         return number(line, gap(line, tried));
     }
-    Count {
+    Found {
         value: or,
         mark: Mark {
-            at: m.at,
-            fits: m.fits,
             reached: tried.reached,
+            ..m
         },
     }
 }
 
 // A word and a name.
-fn file(line: &[u8], m: Mark, keyword: &[u8]) -> Named
+#[tactic(auto, unfolding(crate::specs::Fresh::file_of))]
+fn file(line: &[u8], m: Mark, keyword: &[u8]) -> Found<Span>
     ensures { result ≡ file_of line.now m keyword.now }
 {
     named(line, word(line, gap(line, m), keyword))

@@ -7,6 +7,7 @@ use crate::kinds::Topic;
 use piece::behind::past;
 use piece::mark::Mark;
 
+#[tactic(auto, unfolding(crate::specs::Help::helping_of))]
 pub fn helping(line: &[u8], m: Mark) -> Reading
     ensures { result ≡ helping_of line.now m }
 {
@@ -16,6 +17,7 @@ pub fn helping(line: &[u8], m: Mark) -> Reading
     better(r, of_station(line, behind))
 }
 
+#[tactic(auto, unfolding(crate::specs::Help::of_machine))]
 fn of_machine(line: &[u8], m: Mark) -> Reading
     ensures { result ≡ of_machine line.now m }
 {
@@ -29,6 +31,7 @@ fn of_machine(line: &[u8], m: Mark) -> Reading
     or_plain(r, line, m, b"paper", Form::Help(Topic::Paper), 0)
 }
 
+#[tactic(auto, unfolding(crate::specs::Help::of_station))]
 fn of_station(line: &[u8], m: Mark) -> Reading
     ensures { result ≡ of_station line.now m }
 {

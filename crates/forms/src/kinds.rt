@@ -1,11 +1,6 @@
 // What commands hold.
 
-// The bytes from .. to of the line.
-#[derive(Clone, Copy)]
-pub struct Span {
-    pub from: usize,
-    pub to: usize,
-}
+pub use piece::mark::Span;
 
 #[derive(Clone, Copy)]
 pub struct Fresh {

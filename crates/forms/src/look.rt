@@ -1,12 +1,12 @@
 // The forms of `x` and `xp`.
 ghost use Rattle.std.specs.Prelude.{◌≡◌};
 ghost use Rattle.text.specs.Number.{decimal_at};
-ghost use Rattle.forms.specs.Look.{looking_of, shape_of, times_of, format_of, unit_of};
+ghost use Rattle.forms.specs.Look.{looking_of, shape_of, times_of, format_of, letter_of, unit_of};
 
 use crate::kinds::{Format, Look, Unit};
 use piece::behind::counted;
-use piece::mark::{Count, Mark, fails, goes_on, word};
-use text::Number;
+use piece::mark::{Found, Mark, fails, goes_on, word};
+use text::NoNumber;
 
 // What stands behind the slash.
 #[derive(Clone, Copy)]
@@ -17,42 +17,26 @@ struct Shape {
     mark: Mark,
 }
 
-#[derive(Clone, Copy)]
-struct Faced {
-    format: Format,
-    mark: Mark,
-}
-
-#[derive(Clone, Copy)]
-struct Sized {
-    unit: Unit,
-    mark: Mark,
-}
-
-#[derive(Clone, Copy)]
-pub struct Seen {
-    pub mark: Mark,
-    pub look: Look,
-}
-
-pub fn looking(line: &[u8], m: Mark, name: &[u8], physical: bool) -> Seen
+#[tactic(auto, unfolding(crate::specs::Look::looking_of))]
+pub fn looking(line: &[u8], m: Mark, name: &[u8], physical: bool) -> Found<Look>
     ensures { result ≡ looking_of line.now m name.now physical }
 {
     let shape = behind_slash(line, word(line, m, name));
     let address = counted(line, shape.mark);
-    let mark = address.mark;
-    let format = shape.format;
-    let unit = shape.unit;
-    let look = Look {
+    let value = Look {
         count: shape.count,
-        format,
-        unit,
+        format: shape.format,
+        unit: shape.unit,
         address: address.value,
         physical,
     };
-    Seen { mark, look }
+    Found {
+        value,
+        mark: address.mark,
+    }
 }
 
+#[tactic(auto, unfolding(crate::specs::Look::shape_of))]
 fn behind_slash(line: &[u8], m: Mark) -> Shape
     ensures { result ≡ shape_of line.now m }
 {
@@ -68,104 +52,61 @@ fn behind_slash(line: &[u8], m: Mark) -> Shape
     let n = count(line, slash);
     let f = format(line, n.mark);
     let u = unit(line, f.mark);
-    let format = f.format;
-    let unit = u.unit;
-    let mark = u.mark;
     Shape {
         count: n.value,
-        format,
-        unit,
-        mark,
+        format: f.value,
+        unit: u.value,
+        mark: u.mark,
     }
 }
 
 // A decimal number, or 1 where none stands there.
-fn count(line: &[u8], m: Mark) -> Count
+fn count(line: &[u8], m: Mark) -> Found<u64>
     ensures { result ≡ times_of m (decimal_at line.now m.at) }
 {
-    let found = text::decimal(line, m.at);
-    count_of(m, found)
-}
-
-fn count_of(m: Mark, found: Number) -> Count
-    ensures { result ≡ times_of m found }
-{
-    match found {
-        Number::Value(value, next) => Count {
-            value,
-            mark: goes_on(m, next),
+    match text::decimal(line, m.at) {
+        Ok(n) => Found {
+            value: n.value,
+            mark: goes_on(m, n.to),
         },
-        Number::TooLarge(place) => Count {
+        Err(NoNumber::TooLarge(place)) => Found {
             value: 0,
             mark: fails(m, place),
         },
-        Number::Nothing(_) => Count { value: 1, mark: m },
+        Err(NoNumber::Nothing(_)) => Found { value: 1, mark: m },
     }
 }
 
-fn format(line: &[u8], m: Mark) -> Faced
+#[tactic(auto, unfolding(crate::specs::Look::format_of))]
+fn format(line: &[u8], m: Mark) -> Found<Format>
     ensures { result ≡ format_of line.now m }
 {
-    let x = word(line, m, b"x");
-    if x.fits {
-        return Faced {
-            format: Format::Hex,
-            mark: x,
-        };
-    }
-    let d = word(line, m, b"d");
-    if d.fits {
-        return Faced {
-            format: Format::Signed,
-            mark: d,
-        };
-    }
-    let u = word(line, m, b"u");
-    if u.fits {
-        return Faced {
-            format: Format::Unsigned,
-            mark: u,
-        };
-    }
-    let c = word(line, m, b"c");
-    if c.fits {
-        return Faced {
-            format: Format::Character,
-            mark: c,
-        };
-    }
-    Faced {
-        format: Format::Hex,
-        mark: m,
-    }
+    let letters = [
+        (b'x', Format::Hex),
+        (b'd', Format::Signed),
+        (b'u', Format::Unsigned),
+        (b'c', Format::Character),
+    ];
+    letter(line, m, &letters, Format::Hex)
 }
 
-fn unit(line: &[u8], m: Mark) -> Sized
+#[tactic(auto, unfolding(crate::specs::Look::unit_of))]
+fn unit(line: &[u8], m: Mark) -> Found<Unit>
     ensures { result ≡ unit_of line.now m }
 {
-    let b = word(line, m, b"b");
-    if b.fits {
-        return Sized {
-            unit: Unit::Byte,
-            mark: b,
-        };
+    let letters = [(b'b', Unit::Byte), (b'h', Unit::Half), (b'w', Unit::Word)];
+    letter(line, m, &letters, Unit::Word)
+}
+
+// What the first of the letters that stands there means, or what counts where none does.
+fn letter<T: Copy>(line: &[u8], m: Mark, letters: &[(u8, T)], or: T) -> Found<T>
+    ensures { result ≡ letter_of line.now m letters.now or }
+{
+    for &(b, value) in letters {
+        let mark = word(line, m, &[b]);
+        if mark.fits {
+            return Found { value, mark };
+        }
     }
-    let h = word(line, m, b"h");
-    if h.fits {
-        return Sized {
-            unit: Unit::Half,
-            mark: h,
-        };
-    }
-    let w = word(line, m, b"w");
-    if w.fits {
-        return Sized {
-            unit: Unit::Word,
-            mark: w,
-        };
-    }
-    Sized {
-        unit: Unit::Word,
-        mark: m,
-    }
+    Found { value: or, mark: m }
 }

@@ -1,5 +1,5 @@
 -- The commands as numbers, for C: the kind, what the command holds, and zeros.
-use Rattle.std.specs.Prelude.{Bool, cond, List, [], ◌∷◌, ℕ}
+use Rattle.std.specs.Prelude.{Bool, cond, Result, Ok, Err, List, [], ◌∷◌, ℕ}
 use Rattle.command.specs.declared.kinds.Command.{Command}
 use Rattle.forms.specs.declared.kinds.Fresh.{Fresh}
 use Rattle.forms.specs.declared.kinds.Look.{Look}
@@ -76,4 +76,8 @@ command_numbers command.Restore = 20 ∷ 0 ∷ 0 ∷ 0 ∷ 0 ∷ 0 ∷ 0 ∷ 0 �
 command_numbers command.Quit = 21 ∷ 0 ∷ 0 ∷ 0 ∷ 0 ∷ 0 ∷ 0 ∷ 0 ∷ 0 ∷ 0 ∷ 0 ∷ []
 command_numbers command.Abandon = 22 ∷ 0 ∷ 0 ∷ 0 ∷ 0 ∷ 0 ∷ 0 ∷ 0 ∷ 0 ∷ 0 ∷ 0 ∷ []
 command_numbers (command.Help t) = 23 ∷ topic_number t ∷ 0 ∷ 0 ∷ 0 ∷ 0 ∷ 0 ∷ 0 ∷ 0 ∷ 0 ∷ 0 ∷ []
-command_numbers (command.Refused place) = 24 ∷ place ∷ 0 ∷ 0 ∷ 0 ∷ 0 ∷ 0 ∷ 0 ∷ 0 ∷ 0 ∷ 0 ∷ []
+
+-- a line that is refused is told as 24 and the place
+abbrev pub answer_numbers : Result Command ℕ → List ℕ
+answer_numbers (Ok c) = command_numbers c
+answer_numbers (Err place) = 24 ∷ place ∷ 0 ∷ 0 ∷ 0 ∷ 0 ∷ 0 ∷ 0 ∷ 0 ∷ 0 ∷ 0 ∷ []

@@ -1,9 +1,10 @@
 // Not for the panel: what tests ask of the crate `command`. A command is eleven numbers: its kind, what it holds, and zeros.
+// Stays: the numbers of kinds, formats, units and topics are what the C function `heard_line` answers.
 #![tactic(auto)]
 
-ghost use Rattle.std.specs.Prelude.{◌≡◌};
+ghost use Rattle.std.specs.Prelude.{◌≡◌, ◌≤◌, ◌-◌, ◌++◌, replicate};
 ghost use Rattle.command.specs.Line.{command_of};
-ghost use Rattle.heard.specs.Numbers.{command_numbers, fresh_numbers, look_numbers, format_number, unit_number, topic_number, physical_number};
+ghost use Rattle.heard.specs.Numbers.{answer_numbers, command_numbers, fresh_numbers, look_numbers, format_number, unit_number, topic_number};
 
 use command::{Command, Format, Fresh, Look, Topic, Unit, command};
 
@@ -11,32 +12,41 @@ fn numbers(c: Command) -> [u64; 11]
     ensures { result ≡ command_numbers c }
 {
     match c {
-        Command::Nothing => [0, 0, 0, 0, 0, 0, 0, 0, 0, 0, 0],
+        Command::Nothing => padded([0]),
         Command::New(fresh) => fresh_numbers(fresh),
-        Command::Load(name, n) => [2, name.from as u64, name.to as u64, n, 0, 0, 0, 0, 0, 0, 0],
-        Command::Run(n) => [3, n, 0, 0, 0, 0, 0, 0, 0, 0, 0],
-        Command::RunToException(n) => [4, n, 0, 0, 0, 0, 0, 0, 0, 0, 0],
-        Command::Step(n) => [5, n, 0, 0, 0, 0, 0, 0, 0, 0, 0],
-        Command::Back(n) => [6, n, 0, 0, 0, 0, 0, 0, 0, 0, 0],
-        Command::Blame(n) => [7, n, 0, 0, 0, 0, 0, 0, 0, 0, 0],
-        Command::Before(n) => [8, n, 0, 0, 0, 0, 0, 0, 0, 0, 0],
-        Command::Registers => [9, 0, 0, 0, 0, 0, 0, 0, 0, 0, 0],
-        Command::Cp0 => [10, 0, 0, 0, 0, 0, 0, 0, 0, 0, 0],
-        Command::Tlb => [11, 0, 0, 0, 0, 0, 0, 0, 0, 0, 0],
-        Command::Clocks => [12, 0, 0, 0, 0, 0, 0, 0, 0, 0, 0],
-        Command::Printers => [13, 0, 0, 0, 0, 0, 0, 0, 0, 0, 0],
-        Command::Station => [14, 0, 0, 0, 0, 0, 0, 0, 0, 0, 0],
-        Command::Paper(n) => [15, n, 0, 0, 0, 0, 0, 0, 0, 0, 0],
-        Command::Papers => [16, 0, 0, 0, 0, 0, 0, 0, 0, 0, 0],
+        Command::Load(name, n) => padded([2, name.from as u64, name.to as u64, n]),
+        Command::Run(n) => padded([3, n]),
+        Command::RunToException(n) => padded([4, n]),
+        Command::Step(n) => padded([5, n]),
+        Command::Back(n) => padded([6, n]),
+        Command::Blame(n) => padded([7, n]),
+        Command::Before(n) => padded([8, n]),
+        Command::Registers => padded([9]),
+        Command::Cp0 => padded([10]),
+        Command::Tlb => padded([11]),
+        Command::Clocks => padded([12]),
+        Command::Printers => padded([13]),
+        Command::Station => padded([14]),
+        Command::Paper(n) => padded([15, n]),
+        Command::Papers => padded([16]),
         Command::Examine(look) => look_numbers(look),
-        Command::Compare(name) => [18, name.from as u64, name.to as u64, 0, 0, 0, 0, 0, 0, 0, 0],
-        Command::Save => [19, 0, 0, 0, 0, 0, 0, 0, 0, 0, 0],
-        Command::Restore => [20, 0, 0, 0, 0, 0, 0, 0, 0, 0, 0],
-        Command::Quit => [21, 0, 0, 0, 0, 0, 0, 0, 0, 0, 0],
-        Command::Abandon => [22, 0, 0, 0, 0, 0, 0, 0, 0, 0, 0],
-        Command::Help(topic) => [23, topic_number(topic), 0, 0, 0, 0, 0, 0, 0, 0, 0],
-        Command::Refused(place) => [24, place as u64, 0, 0, 0, 0, 0, 0, 0, 0, 0],
+        Command::Compare(name) => padded([18, name.from as u64, name.to as u64]),
+        Command::Save => padded([19]),
+        Command::Restore => padded([20]),
+        Command::Quit => padded([21]),
+        Command::Abandon => padded([22]),
+        Command::Help(topic) => padded([23, topic_number(topic)]),
     }
+}
+
+// Numbers, and zeros behind them.
+fn padded<const N: usize>(held: [u64; N]) -> [u64; 11]
+    requires { N ≤ 11 }
+    ensures { result ≡ held.entry ++ replicate (11 - N) 0 }
+{
+    let mut all = [0; 11];
+    all[..N].copy_from_slice(&held);
+    all
 }
 
 fn fresh_numbers(f: Fresh) -> [u64; 11]
@@ -60,14 +70,10 @@ fn fresh_numbers(f: Fresh) -> [u64; 11]
 fn look_numbers(l: Look) -> [u64; 11]
     ensures { result ≡ look_numbers l }
 {
-    let f = l.format;
-    let u = l.unit;
-    let format = format_number(f);
-    let unit = unit_number(u);
-    let physical = physical_number(l.physical);
-    [
-        17, l.count, format, unit, l.address, physical, 0, 0, 0, 0, 0,
-    ]
+    let format = format_number(l.format);
+    let unit = unit_number(l.unit);
+    let physical = u64::from(l.physical);
+    padded([17, l.count, format, unit, l.address, physical])
 }
 
 fn format_number(f: Format) -> u64
@@ -89,15 +95,6 @@ fn unit_number(u: Unit) -> u64
         Unit::Half => 1,
         Unit::Word => 2,
     }
-}
-
-fn physical_number(physical: bool) -> u64
-    ensures { result ≡ physical_number physical }
-{
-    if physical {
-        return 1;
-    }
-    0
 }
 
 fn topic_number(t: Topic) -> u64
@@ -126,8 +123,10 @@ fn topic_number(t: Topic) -> u64
 // The command of a line, written to `out`.
 #[unsafe(no_mangle)]
 pub extern "C" fn heard_line(line: &[u8], out: &mut [u64; 11])
-    ensures { out.new ≡ command_numbers (command_of line.now) }
+    ensures { out.new ≡ answer_numbers (command_of line.now) }
 {
-    let answer = numbers(command(line));
-    *out = answer;
+    *out = match command(line) {
+        Ok(c) => numbers(c),
+        Err(place) => padded([24, place as u64]),
+    };
 }

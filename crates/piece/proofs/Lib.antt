@@ -3,4 +3,3 @@ pub mod Common
 pub mod Local
 pub mod LocalPieces
 pub mod LocalByte
-pub mod Pieces

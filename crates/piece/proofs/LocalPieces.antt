@@ -9,8 +9,10 @@ use borrow.Author.Tests.{lt-leb, ltb-false}
 use lib.Dec.{eqb, ltb, leb}
 use lib.ListN.{length, drop, length-append}
 use Rattle.text.specs.Number.{number_of}
+use Rattle.std.specs.Prelude.{Result, Ok, Err}
 use Rattle.text.specs.declared.found.Number.{Number}
-use Rattle.text.specs.declared.found.Number.TheVariants.{Value, TooLarge, Nothing}
+use Rattle.text.specs.declared.found.NoNumber.{NoNumber}
+use Rattle.text.specs.declared.found.NoNumber.TheVariants.{TooLarge, Nothing}
 use Rattle.text.proofs.Common.{behind_same}
 use Rattle.text.proofs.Beginnings.{Within, number_same, place_in, number_later}
 use Rattle.piece.specs.Mark.{goes_on, fails_at, stands_of, is_space, is_name_byte, behind_spaces, behind_name, agreed_of, gap_of, end_of, word_of, count_of, number_in, name_of}
@@ -39,10 +41,10 @@ word_at w l at = cond (eqb (agreed_of w (drop at l)) (length w)) (goes (at + agr
 name_at : List ℕ → ℕ → Outcome
 name_at l at = cond (ltb at (behind_name l at)) (goes (behind_name l at)) (fails at)
 
-outcome_of : Number → Outcome
-outcome_of (Value v next) = goes next
-outcome_of (TooLarge place) = fails place
-outcome_of (Nothing place) = fails place
+outcome_of : Result Number NoNumber → Outcome
+outcome_of (Ok n) = goes n.to
+outcome_of (Err (TooLarge place)) = fails place
+outcome_of (Err (Nothing place)) = fails place
 
 -- ---- the definitions say so
 gap_step : (l : List ℕ) (m : Mark) → gap_of l m ≡ step_of (gap_at l m.at) m
@@ -63,11 +65,11 @@ name_step : (l : List ℕ) (m : Mark) → (name_of l m).mark ≡ step_of (name_a
 unfolding name_at
 name_step l m = ap (λ x. cond m.fits x m) (either m (ltb m.at (behind_name l m.at)) (behind_name l m.at) m.at)
 
-counts : (m : Mark) (b : Bool) (n : Number) → ◌≡◌ {A = Mark} (cond b (count_of m n) (record { value = 0; mark = m })).mark (cond b (applied (outcome_of n) m) m)
+counts : (m : Mark) (b : Bool) (n : Result Number NoNumber) → ◌≡◌ {A = Mark} (cond b (count_of m n) (record { value = 0; mark = m })).mark (cond b (applied (outcome_of n) m) m)
 unfolding outcome_of
-counts m true (Value v next) = refl
-counts m true (TooLarge place) = refl
-counts m true (Nothing place) = refl
+counts m true (Ok n) = refl
+counts m true (Err (TooLarge place)) = refl
+counts m true (Err (Nothing place)) = refl
 counts m false n = refl
 
 number_step : (l : List ℕ) (m : Mark) → (number_in l m).mark ≡ step_of (outcome_of (number_of l m.at)) m
@@ -152,24 +154,24 @@ module _ (c t t' : List ℕ) where
   name_local = local_by (λ l m. step_of (name_at l m.at) m) (λ l m. (name_of l m).mark) name_step (step_local c t t' name_at name_later name_told)
 
   -- no number that begins within the common beginning is too large
-  pub number_local : ((at place : ℕ) → number_of (c ++ t) at ≡ TooLarge place → place < length c → ⊥) → Local c t t' (λ l m. (number_in l m).mark)
+  pub number_local : ((at place : ℕ) → number_of (c ++ t) at ≡ Err (TooLarge place) → place < length c → ⊥) → Local c t t' (λ l m. (number_in l m).mark)
   unfolding outcome_of
   number_local none =
       local_by (λ l m. step_of (outcome_of (number_of l m.at)) m) (λ l m. (number_in l m).mark) number_step
       (step_local c t t' (λ l at. outcome_of (number_of l at)) later told)
     where
-      placed : (n : Number) → place_of (outcome_of n) ≡ place_in n
-      placed (Value v next) = refl
-      placed (TooLarge place) = refl
-      placed (Nothing place) = refl
+      placed : (n : Result Number NoNumber) → place_of (outcome_of n) ≡ place_in n
+      placed (Ok n) = refl
+      placed (Err (TooLarge place)) = refl
+      placed (Err (Nothing place)) = refl
 
       later : (at : ℕ) → at ≤ place_of (outcome_of (number_of (c ++ t) at))
       later at = rw (placed (number_of (c ++ t) at)) (number_later (c ++ t) at)
 
-      within : (at : ℕ) (n : Number) → number_of (c ++ t) at ≡ n → place_of (outcome_of n) < length c → Within (length c) n
-      within at (Value v next) e h = h
-      within at (TooLarge place) e h = none at place e h
-      within at (Nothing place) e h = h
+      within : (at : ℕ) (n : Result Number NoNumber) → number_of (c ++ t) at ≡ n → place_of (outcome_of n) < length c → Within (length c) n
+      within at (Ok n) e h = h
+      within at (Err (TooLarge place)) e h = none at place e h
+      within at (Err (Nothing place)) e h = h
 
       told : (at : ℕ) → place_of (outcome_of (number_of (c ++ t) at)) < length c → outcome_of (number_of (c ++ t') at) ≡ outcome_of (number_of (c ++ t) at)
       told at h = ap outcome_of (number_same c t t' at (within at (number_of (c ++ t) at) refl h))

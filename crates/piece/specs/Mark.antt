@@ -1,12 +1,13 @@
 -- How far a form fits a line, and the pieces that forms are made of. A piece that is given a mark that fits no more hands it back.
-use Rattle.std.specs.Prelude.{Bool, true, false, cond, List, [], ◌∷◌, ℕ, suc, ◌+◌, eqb, ltb, leb, length, get_or, drop}
+use Rattle.std.specs.Prelude.{Bool, true, false, cond, Result, Ok, Err, List, [], ◌∷◌, ℕ, suc, ◌+◌, eqb, ltb, leb, length, get_or, drop}
 use Rattle.text.specs.Head.{head_of}
 use Rattle.text.specs.Number.{number_of}
 use Rattle.text.specs.declared.found.Number.{Number}
-use Rattle.text.specs.declared.found.Number.TheVariants.{Value, TooLarge, Nothing}
+use Rattle.text.specs.declared.found.NoNumber.{NoNumber}
+use Rattle.text.specs.declared.found.NoNumber.TheVariants.{TooLarge, Nothing}
 use Rattle.piece.specs.declared.mark.Mark.{Mark}
-use Rattle.piece.specs.declared.mark.Count.{Count}
-use Rattle.piece.specs.declared.mark.Named.{Named}
+use Rattle.piece.specs.declared.mark.Found.{Found}
+use Rattle.piece.specs.declared.mark.Span.{Span}
 
 abbrev pub goes_on : Mark → ℕ → Mark
 goes_on m place = record { at = place; fits = true; reached = m.reached }
@@ -55,17 +56,17 @@ word_from m word n = cond (eqb n (length word)) (goes_on m (m.at + n)) (fails_at
 unfoldable pub word_of : List ℕ → Mark → List ℕ → Mark
 word_of line m word = cond m.fits (word_from m word (agreed_of word (drop m.at line))) m
 
-abbrev pub count_of : Mark → Number → Count
-count_of m (Value v next) = record { value = v; mark = goes_on m next }
-count_of m (TooLarge place) = record { value = 0; mark = fails_at m place }
-count_of m (Nothing place) = record { value = 0; mark = fails_at m place }
+abbrev pub count_of : Mark → Result Number NoNumber → Found ℕ
+count_of m (Ok n) = record { value = n.value; mark = goes_on m n.to }
+count_of m (Err (TooLarge place)) = record { value = 0; mark = fails_at m place }
+count_of m (Err (Nothing place)) = record { value = 0; mark = fails_at m place }
 
-unfoldable pub number_in : List ℕ → Mark → Count
+unfoldable pub number_in : List ℕ → Mark → Found ℕ
 number_in line m = cond m.fits (count_of m (number_of line m.at)) (record { value = 0; mark = m })
 
 -- one byte above 0x20 or more
 abbrev pub name_mark_of : Mark → ℕ → Mark
 name_mark_of m place = cond m.fits (cond (ltb m.at place) (goes_on m place) (fails_at m m.at)) m
 
-abbrev pub name_of : List ℕ → Mark → Named
-name_of line m = record { from = m.at; to = behind_name line m.at; mark = name_mark_of m (behind_name line m.at) }
+abbrev pub name_of : List ℕ → Mark → Found Span
+name_of line m = record { value = record { from = m.at; to = behind_name line m.at }; mark = name_mark_of m (behind_name line m.at) }

@@ -2,22 +2,21 @@
 ghost use Rattle.std.specs.Prelude.{◌≡◌};
 ghost use Rattle.piece.specs.Behind.{counted_of, named_of, past_of};
 
-use crate::mark::{Count, Mark, Named, end, gap, name, number, word};
+use crate::mark::{Found, Mark, Span, end, gap, name, number, word};
 
 // A number behind what was read, at the line's end.
-pub fn counted(line: &[u8], m: Mark) -> Count
+pub fn counted(line: &[u8], m: Mark) -> Found<u64>
     ensures { result ≡ counted_of line.now m }
 {
     let n = number(line, gap(line, m));
-    let mark = end(line, n.mark);
-    Count {
-        value: n.value,
-        mark,
+    Found {
+        mark: end(line, n.mark),
+        ..n
     }
 }
 
 // A name behind what was read.
-pub fn named(line: &[u8], m: Mark) -> Named
+pub fn named(line: &[u8], m: Mark) -> Found<Span>
     ensures { result ≡ named_of line.now m }
 {
     name(line, gap(line, m))

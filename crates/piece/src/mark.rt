@@ -2,7 +2,7 @@
 ghost use Rattle.std.specs.Prelude.{◌≡◌, ◌+◌, drop};
 ghost use Rattle.piece.specs.Mark.{goes_on, fails_at, stands_of, behind_spaces, behind_name, agreed_of, gap_of, end_of, word_of, count_of, number_in, name_mark_of, name_of};
 
-use text::Number;
+use text::{NoNumber, Number};
 
 #[derive(Clone, Copy)]
 pub struct Mark {
@@ -14,17 +14,18 @@ pub struct Mark {
     pub reached: usize,
 }
 
+// What a piece read, and the mark behind it.
 #[derive(Clone, Copy)]
-pub struct Count {
-    pub value: u64,
+pub struct Found<T> {
+    pub value: T,
     pub mark: Mark,
 }
 
+// The bytes from .. to of the line.
 #[derive(Clone, Copy)]
-pub struct Named {
+pub struct Span {
     pub from: usize,
     pub to: usize,
-    pub mark: Mark,
 }
 
 pub fn goes_on(m: Mark, at: usize) -> Mark
@@ -33,153 +34,116 @@ pub fn goes_on(m: Mark, at: usize) -> Mark
     Mark {
         at,
         fits: true,
-        reached: m.reached,
+        ..m
     }
 }
 
 pub fn fails(m: Mark, place: usize) -> Mark
     ensures { result ≡ fails_at m place }
 {
-    if m.reached < place {
-        return Mark {
-            at: m.at,
-            fits: false,
-            reached: place,
-        };
-    }
     Mark {
-        at: m.at,
         fits: false,
-        reached: m.reached,
+        reached: m.reached.max(place),
+        ..m
     }
 }
 
 // Whether a byte stands at a place.
+#[tactic(auto, unfolding(crate::specs::Mark::stands_of))]
 pub fn stands(line: &[u8], at: usize, byte: u8) -> bool
     ensures { result ≡ stands_of line.now at byte }
 {
-    if line.len() <= at {
-        return false;
-    }
-    line[at] == byte
+    line.get(at) == Some(&byte)
 }
 
 // The place behind the spaces at a place.
 pub fn behind_spaces(line: &[u8], from: usize) -> usize
     ensures { result ≡ behind_spaces line.now from }
 {
-    let mut at = from;
-    loop {
-        if line.len() <= at {
-            break at;
-        }
-        if line[at] != b' ' {
-            break at;
-        }
-        at += 1;
-    }
+    from + line.iter().skip(from).take_while(|&&b| b == b' ').count()
 }
 
 // The place behind the bytes above 0x20 at a place.
 fn behind_name(line: &[u8], from: usize) -> usize
     ensures { result ≡ behind_name line.now from }
 {
-    let mut at = from;
-    loop {
-        if line.len() <= at {
-            break at;
-        }
-        if line[at] <= b' ' {
-            break at;
-        }
-        at += 1;
-    }
+    from + line.iter().skip(from).take_while(|&&b| b' ' < b).count()
 }
 
 // The place behind the bytes at a place that agree with those of a word.
 fn behind_agreed(line: &[u8], from: usize, bytes: &[u8]) -> usize
     ensures { result ≡ from + agreed_of bytes.now (drop from line.now) }
 {
-    let mut at = from;
-    let mut i: usize = 0;
-    loop {
-        if bytes.len() <= i {
-            break at;
-        }
-        if !stands(line, at, bytes[i]) {
-            break at;
-        }
-        at += 1;
-        i += 1;
-    }
+    let pairs = line.iter().skip(from).zip(bytes.iter());
+    from + pairs.take_while(|&(a, b)| a == b).count()
 }
 
 // One space or more.
+#[tactic(auto, unfolding(crate::specs::Mark::gap_of))]
 pub fn gap(line: &[u8], m: Mark) -> Mark
     ensures { result ≡ gap_of line.now m }
 {
-    let at = m.at;
-    if m.fits {
-        if stands(line, at, b' ') {
-            return goes_on(m, behind_spaces(line, at));
-        }
-        return fails(m, at);
+    if !m.fits {
+        return m;
     }
-    m
+    if stands(line, m.at, b' ') {
+        goes_on(m, behind_spaces(line, m.at))
+    } else {
+        fails(m, m.at)
+    }
 }
 
 // The line's end, and spaces before it.
+#[tactic(auto, unfolding(crate::specs::Mark::end_of))]
 pub fn end(line: &[u8], m: Mark) -> Mark
     ensures { result ≡ end_of line.now m }
 {
-    let at = behind_spaces(line, m.at);
-    if m.fits {
-        if line.len() <= at {
-            return goes_on(m, at);
-        }
-        return fails(m, at);
+    if !m.fits {
+        return m;
     }
-    m
+    let at = behind_spaces(line, m.at);
+    if line.len() <= at {
+        goes_on(m, at)
+    } else {
+        fails(m, at)
+    }
 }
 
 // The bytes of a word.
+#[tactic(auto, unfolding(crate::specs::Mark::word_of))]
 pub fn word(line: &[u8], m: Mark, bytes: &[u8]) -> Mark
     ensures { result ≡ word_of line.now m bytes.now }
 {
-    let from = m.at;
-    if m.fits {
-        let at = behind_agreed(line, from, bytes);
-        if at - from == bytes.len() {
-            return goes_on(m, at);
-        }
-        return fails(m, at);
+    if !m.fits {
+        return m;
     }
-    m
+    let at = behind_agreed(line, m.at, bytes);
+    if at - m.at == bytes.len() {
+        goes_on(m, at)
+    } else {
+        fails(m, at)
+    }
 }
 
-pub fn number(line: &[u8], m: Mark) -> Count
+#[tactic(auto, unfolding(crate::specs::Mark::number_in))]
+pub fn number(line: &[u8], m: Mark) -> Found<u64>
     ensures { result ≡ number_in line.now m }
 {
-    let found = text::number(line, m.at);
-    if m.fits {
-        return counted(m, found);
+    if !m.fits {
+        return Found { value: 0, mark: m };
     }
-    Count { value: 0, mark: m }
+    counted(m, text::number(line, m.at))
 }
 
-fn counted(m: Mark, found: Number) -> Count
+fn counted(m: Mark, found: Result<Number, NoNumber>) -> Found<u64>
     ensures { result ≡ count_of m found }
 {
     match found {
-        Number::Value(value, next) => Count {
-            value,
-            mark: goes_on(m, next),
+        Ok(n) => Found {
+            value: n.value,
+            mark: goes_on(m, n.to),
         },
-        Number::TooLarge(place) => Count {
-            value: 0,
-            mark: fails(m, place),
-        },
-        Number::Nothing(place) => Count {
+        Err(NoNumber::TooLarge(place) | NoNumber::Nothing(place)) => Found {
             value: 0,
             mark: fails(m, place),
         },
@@ -187,14 +151,12 @@ fn counted(m: Mark, found: Number) -> Count
 }
 
 // One byte above 0x20 or more.
-pub fn name(line: &[u8], m: Mark) -> Named
+pub fn name(line: &[u8], m: Mark) -> Found<Span>
     ensures { result ≡ name_of line.now m }
 {
-    let from = m.at;
-    let to = behind_name(line, from);
-    Named {
-        from,
-        to,
+    let to = behind_name(line, m.at);
+    Found {
+        value: Span { from: m.at, to },
         mark: name_mark(m, to),
     }
 }
@@ -202,12 +164,12 @@ pub fn name(line: &[u8], m: Mark) -> Named
 fn name_mark(m: Mark, to: usize) -> Mark
     ensures { result ≡ name_mark_of m to }
 {
-    let from = m.at;
-    if m.fits {
-        if from < to {
-            return goes_on(m, to);
-        }
-        return fails(m, from);
+    if !m.fits {
+        return m;
     }
-    m
+    if m.at < to {
+        goes_on(m, to)
+    } else {
+        fails(m, m.at)
+    }
 }

@@ -5,7 +5,8 @@ use mathlib.Core.List.{List, ◌++◌}
 use Prim.Native.Nat.{ℕ, ◌<◌}
 use lib.ListN.{length}
 use Rattle.text.specs.Number.{number_of}
-use Rattle.text.specs.declared.found.Number.TheVariants.{TooLarge}
+use Rattle.std.specs.Prelude.{Err}
+use Rattle.text.specs.declared.found.NoNumber.TheVariants.{TooLarge}
 use Rattle.piece.specs.Mark.{gap_of, end_of, word_of, number_in, name_of}
 use Rattle.piece.specs.declared.mark.Mark.{Mark}
 use Rattle.piece.proofs.Local.{Local, then_local}
@@ -18,7 +19,7 @@ use Rattle.command.specs.Table.{load_of, compare_of, station_of, runs_of, forwar
 use Rattle.place.proofs.Settings.{setting_local, file_local}
 use Rattle.place.proofs.Readings.{Keeps, keeps, better_keeps}
 
-module _ (c t t' : List ℕ) (none : (at place : ℕ) → number_of (c ++ t) at ≡ TooLarge place → place < length c → ⊥) where
+module _ (c t t' : List ℕ) (none : (at place : ℕ) → number_of (c ++ t) at ≡ Err (TooLarge place) → place < length c → ⊥) where
   plain : (w : List ℕ) → Local c t t' (λ l m. end_of l (word_of l m w))
   plain w = then_local (word_local c t t' w) (end_local c t t')
 

@@ -10,73 +10,21 @@ use lib.Dec.{leb}
 use lib.ListN.{length, take, drop, length-append, take-append-drop}
 use lib.Seq.{length-take-le}
 use Rattle.text.specs.Number.{number_of}
-use Rattle.text.specs.declared.found.Number.TheVariants.{TooLarge}
+use Rattle.std.specs.Prelude.{Result, Ok, Err}
+use Rattle.text.specs.declared.found.NoNumber.TheVariants.{TooLarge}
 use Rattle.text.proofs.Common.{behind_same}
 use Rattle.piece.specs.Mark.{stands_of, is_space, behind_spaces}
-use Rattle.piece.specs.declared.mark.Mark.{Mark}
 use Rattle.piece.proofs.Common.{stands_same}
-use Rattle.forms.specs.declared.form.Form.{Form}
-use Rattle.forms.specs.declared.form.Form.TheVariants.{New, Load, Compare, Save, Restore, Quit, Abandon, Run, RunToException, Step, Back, Blame, Before, Registers, Cp0, Tlb, Clocks, Printers, Station, Paper, Papers, Examine, Physical, Help}
 use Rattle.command.specs.Table.{forms_of}
 use Rattle.command.specs.Line.{asked_of, said_of, start_of, command_of}
 use Rattle.command.specs.declared.kinds.Command.{Command}
 use Rattle.command.specs.declared.kinds.Command.TheVariants as command
 use Rattle.place.proofs.Forms.{forms}
 
--- the place of a refusal, behind 1; 0 for any other command
-refusal : Command → ℕ
-refusal (command.Refused place) = suc place
-refusal command.Nothing = 0
-refusal (command.New f) = 0
-refusal (command.Load n v) = 0
-refusal (command.Run v) = 0
-refusal (command.RunToException v) = 0
-refusal (command.Step v) = 0
-refusal (command.Back v) = 0
-refusal (command.Blame v) = 0
-refusal (command.Before v) = 0
-refusal command.Registers = 0
-refusal command.Cp0 = 0
-refusal command.Tlb = 0
-refusal command.Clocks = 0
-refusal command.Printers = 0
-refusal command.Station = 0
-refusal (command.Paper v) = 0
-refusal command.Papers = 0
-refusal (command.Examine l) = 0
-refusal (command.Compare n) = 0
-refusal command.Save = 0
-refusal command.Restore = 0
-refusal command.Quit = 0
-refusal command.Abandon = 0
-refusal (command.Help t) = 0
-
-asked_fits : (l : List ℕ) (m : Mark) (f : Form) (v : ℕ) → refusal (asked_of l m f v) ≡ 0
-unfolding refusal
-asked_fits l m New v = refl
-asked_fits l m Load v = refl
-asked_fits l m Compare v = refl
-asked_fits l m Save v = refl
-asked_fits l m Restore v = refl
-asked_fits l m Quit v = refl
-asked_fits l m Abandon v = refl
-asked_fits l m Run v = refl
-asked_fits l m RunToException v = refl
-asked_fits l m Step v = refl
-asked_fits l m Back v = refl
-asked_fits l m Blame v = refl
-asked_fits l m Before v = refl
-asked_fits l m Registers v = refl
-asked_fits l m Cp0 v = refl
-asked_fits l m Tlb v = refl
-asked_fits l m Clocks v = refl
-asked_fits l m Printers v = refl
-asked_fits l m Station v = refl
-asked_fits l m Paper v = refl
-asked_fits l m Papers v = refl
-asked_fits l m Examine v = refl
-asked_fits l m Physical v = refl
-asked_fits l m (Help t) v = refl
+-- the place of a refusal, behind 1; 0 for a command
+refusal : Result Command ℕ → ℕ
+refusal (Err place) = suc place
+refusal (Ok c) = 0
 
 -- what a refused line comes to
 pub record Missed (l : List ℕ) (s p : ℕ) : Type 0 where
@@ -85,22 +33,20 @@ pub record Missed (l : List ℕ) (s p : ℕ) : Type 0 where
   pub fits : (forms_of l (start_of s)).mark.fits ≡ false
   pub reached : (forms_of l (start_of s)).mark.reached ≡ p
 
-missed : (l : List ℕ) (p : ℕ) → command_of l ≡ command.Refused p → Missed l (behind_spaces l 0) p
+missed : (l : List ℕ) (p : ℕ) → command_of l ≡ Err p → Missed l (behind_spaces l 0) p
 unfolding command_of refusal
 missed l p e =
     go (leb (length l) (behind_spaces l 0)) refl (stands_of l (behind_spaces l 0) 35) refl (forms_of l (start_of (behind_spaces l 0))).mark.fits refl (ap refusal e)
   where
     go : (a : Bool) → leb (length l) (behind_spaces l 0) ≡ a → (b : Bool) → stands_of l (behind_spaces l 0) 35 ≡ b → (f : Bool) → (forms_of l (start_of (behind_spaces l 0))).mark.fits ≡ f
-        → refusal (cond a command.Nothing (cond b command.Nothing (cond f (asked_of l (start_of (behind_spaces l 0)) (forms_of l (start_of (behind_spaces l 0))).form (forms_of l (start_of (behind_spaces l 0))).value) (command.Refused (forms_of l (start_of (behind_spaces l 0))).mark.reached)))) ≡ suc p
+        → refusal (cond a (Ok command.Nothing) (cond b (Ok command.Nothing) (cond f (Ok (asked_of l (start_of (behind_spaces l 0)) (forms_of l (start_of (behind_spaces l 0))).form (forms_of l (start_of (behind_spaces l 0))).value)) (Err (forms_of l (start_of (behind_spaces l 0))).mark.reached)))) ≡ suc p
         → Missed l (behind_spaces l 0) p
     go true ea b eb f ef h = absurd (omega arith)
     go false ea true eb f ef h = absurd (omega arith)
-    go false ea false eb true ef h =
-        let z : refusal (asked_of l (start_of (behind_spaces l 0)) (forms_of l (start_of (behind_spaces l 0))).form (forms_of l (start_of (behind_spaces l 0))).value) ≡ 0 = asked_fits l (start_of (behind_spaces l 0)) (forms_of l (start_of (behind_spaces l 0))).form (forms_of l (start_of (behind_spaces l 0))).value in
-        absurd (omega arith)
+    go false ea false eb true ef h = absurd (omega arith)
     go false ea false eb false ef h = record { inside = leb-false _ _ ea; begun = eb; fits = ef; reached = omega arith }
 
-module _ (c t t' : List ℕ) (p : ℕ) (none : (at place : ℕ) → number_of (c ++ t) at ≡ TooLarge place → place < length c → ⊥) where
+module _ (c t t' : List ℕ) (p : ℕ) (none : (at place : ℕ) → number_of (c ++ t) at ≡ Err (TooLarge place) → place < length c → ⊥) where
   -- from the first byte on: s is its place
   module _ (s : ℕ) (h : Missed (c ++ t) s p) (l : p < length c) (within : s < length c) where
     inside : (u : List ℕ) → s < length (c ++ u)
@@ -109,31 +55,31 @@ module _ (c t t' : List ℕ) (p : ℕ) (none : (at place : ℕ) → number_of (c
     same_mark : (forms_of (c ++ t') (start_of s)).mark ≡ (forms_of (c ++ t) (start_of s)).mark
     same_mark = (forms c t t' none (start_of s)).told h.fits (rw h.reached l)
 
-    said : said_of (c ++ t') (start_of s) (forms_of (c ++ t') (start_of s)) ≡ command.Refused p
+    said : said_of (c ++ t') (start_of s) (forms_of (c ++ t') (start_of s)) ≡ Err p
     said =
-        ap (λ m. cond m.fits (asked_of (c ++ t') (start_of s) (forms_of (c ++ t') (start_of s)).form (forms_of (c ++ t') (start_of s)).value) (command.Refused m.reached)) same_mark
-        ∙ ap (λ b. cond b (asked_of (c ++ t') (start_of s) (forms_of (c ++ t') (start_of s)).form (forms_of (c ++ t') (start_of s)).value) (command.Refused (forms_of (c ++ t) (start_of s)).mark.reached)) h.fits
-        ∙ ap command.Refused h.reached
+        ap (λ m. cond m.fits (Ok (asked_of (c ++ t') (start_of s) (forms_of (c ++ t') (start_of s)).form (forms_of (c ++ t') (start_of s)).value)) (Err m.reached)) same_mark
+        ∙ ap (λ b. cond b (Ok (asked_of (c ++ t') (start_of s) (forms_of (c ++ t') (start_of s)).form (forms_of (c ++ t') (start_of s)).value)) (Err (forms_of (c ++ t) (start_of s)).mark.reached)) h.fits
+        ∙ ap Err h.reached
 
-    from_start : behind_spaces (c ++ t') 0 ≡ s → command_of (c ++ t') ≡ command.Refused p
+    from_start : behind_spaces (c ++ t') 0 ≡ s → command_of (c ++ t') ≡ Err p
     unfolding command_of
     from_start e =
-        ap (λ q. cond (leb (length (c ++ t')) q) command.Nothing (cond (stands_of (c ++ t') q 35) command.Nothing (said_of (c ++ t') (start_of q) (forms_of (c ++ t') (start_of q))))) e
-        ∙ ap (λ b. cond b command.Nothing (cond (stands_of (c ++ t') s 35) command.Nothing (said_of (c ++ t') (start_of s) (forms_of (c ++ t') (start_of s))))) (lt-leb (length (c ++ t')) s (inside t'))
-        ∙ ap (λ b. cond b command.Nothing (said_of (c ++ t') (start_of s) (forms_of (c ++ t') (start_of s)))) (stands_same c t t' s 35 within ∙ h.begun)
+        ap (λ q. cond (leb (length (c ++ t')) q) (Ok command.Nothing) (cond (stands_of (c ++ t') q 35) (Ok command.Nothing) (said_of (c ++ t') (start_of q) (forms_of (c ++ t') (start_of q))))) e
+        ∙ ap (λ b. cond b (Ok command.Nothing) (cond (stands_of (c ++ t') s 35) (Ok command.Nothing) (said_of (c ++ t') (start_of s) (forms_of (c ++ t') (start_of s))))) (lt-leb (length (c ++ t')) s (inside t'))
+        ∙ ap (λ b. cond b (Ok command.Nothing) (said_of (c ++ t') (start_of s) (forms_of (c ++ t') (start_of s)))) (stands_same c t t' s 35 within ∙ h.begun)
         ∙ said
 
   -- the law
-  pub refused_stays : command_of (c ++ t) ≡ command.Refused p → p < length c → command_of (c ++ t') ≡ command.Refused p
+  pub refused_stays : command_of (c ++ t) ≡ Err p → p < length c → command_of (c ++ t') ≡ Err p
   refused_stays e l =
       let h : Missed (c ++ t) (behind_spaces (c ++ t) 0) p = missed (c ++ t) p e in
       let within : behind_spaces (c ++ t) 0 < length c = ((forms c t t none (start_of (behind_spaces (c ++ t) 0))).begun h.fits (rw h.reached l)).there refl in
       from_start (behind_spaces (c ++ t) 0) h l within (ap (λ n. 0 + n) (behind_same c t t' is_space 0 within))
 
 -- said of the line itself: none that begins with its bytes up to and including that at the place is accepted
-pub refused_at : (line : List ℕ) (p : ℕ) → command_of line ≡ command.Refused p → p < length line
-    → ((at place : ℕ) → number_of line at ≡ TooLarge place → p < place)
-    → (t : List ℕ) → command_of (take (suc p) line ++ t) ≡ command.Refused p
+pub refused_at : (line : List ℕ) (p : ℕ) → command_of line ≡ Err p → p < length line
+    → ((at place : ℕ) → number_of line at ≡ Err (TooLarge place) → p < place)
+    → (t : List ℕ) → command_of (take (suc p) line ++ t) ≡ Err p
 refused_at line p e l none t =
     let whole : take (suc p) line ++ drop (suc p) line ≡ line = take-append-drop (suc p) line in
     let long : length (take (suc p) line) ≡ suc p = length-take-le (suc p) line l in

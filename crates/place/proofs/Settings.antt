@@ -5,10 +5,11 @@ use mathlib.Core.List.{List, ◌++◌}
 use Prim.Native.Nat.{ℕ, ◌<◌}
 use lib.ListN.{length}
 use Rattle.text.specs.Number.{number_of}
-use Rattle.text.specs.declared.found.Number.TheVariants.{TooLarge}
+use Rattle.std.specs.Prelude.{Err}
+use Rattle.text.specs.declared.found.NoNumber.TheVariants.{TooLarge}
 use Rattle.piece.specs.Mark.{gap_of, word_of, number_in}
 use Rattle.piece.specs.declared.mark.Mark.{Mark}
-use Rattle.piece.specs.declared.mark.Count.{Count}
+use Rattle.piece.specs.declared.mark.Found.{Found}
 use Rattle.piece.proofs.Local.{In, Local, then_local, local_by}
 use Rattle.piece.proofs.LocalPieces.{gap_local, word_local, number_local, name_local}
 use Rattle.forms.specs.Fresh.{setting_of, file_of}
@@ -20,7 +21,7 @@ left m x = record { at = m.at; fits = m.fits; reached = x.reached }
 picked : List ℕ → Mark → Mark → Mark
 picked l m x = cond x.fits (number_in l (gap_of l x)).mark (left m x)
 
-mark_of : (b : Bool) (a z : Count) → (cond b a z).mark ≡ cond b a.mark z.mark
+mark_of : (b : Bool) (a z : Found ℕ) → (cond b a z).mark ≡ cond b a.mark z.mark
 mark_of true a z = refl
 mark_of false a z = refl
 
@@ -28,7 +29,7 @@ setting_is : (w : List ℕ) (or : ℕ) (l : List ℕ) (m : Mark) → (setting_of
 unfolding setting_of picked left
 setting_is w or l m = mark_of (word_of l (gap_of l m) w).fits (number_in l (gap_of l (word_of l (gap_of l m) w))) (record { value = or; mark = record { at = m.at; fits = m.fits; reached = (word_of l (gap_of l m) w).reached } })
 
-module _ (c t t' : List ℕ) (none : (at place : ℕ) → number_of (c ++ t) at ≡ TooLarge place → place < length c → ⊥) where
+module _ (c t t' : List ℕ) (none : (at place : ℕ) → number_of (c ++ t) at ≡ Err (TooLarge place) → place < length c → ⊥) where
   read : Local c t t' (λ l m. (number_in l (gap_of l m)).mark)
   read = then_local (gap_local c t t') (number_local c t t' none)
 

@@ -5,24 +5,16 @@ use mathlib.Core.List.{List}
 use Prim.Native.Nat.{ℕ, ◌+◌, ◌-◌, ◌<◌, ◌≤◌}
 use native.Mathlib.Numerals.{add-one}
 use native.Mathlib.Omega.{arith}
-use borrow.Author.Tests.{eq-eqb, ne_eqb, lt-ltb, le-leb, lt-leb}
+use borrow.Author.Tests.{lt-ltb, le-leb, lt-leb}
 use lib.Dec.{ltb, leb}
 use lib.ListN.{length, get_or, take, drop, replicate, drop_of_length-le}
 use lib.Seq.{length-take-le, get_or-take, drop-cons}
-use Rattle.remote.specs.Payload.{Reading, broken, added_of, last_of, plain_of, run_of, step_of, steps_of}
+use Rattle.remote.specs.Payload.{Reading, broken, added_of, last_of, run_of, step_of, steps_of}
 use Rattle.remote.specs.Course.{Reads, reading_of, laid_in}
 use Rattle.remote.specs.declared.course.Course.{Course}
-use Rattle.remote.specs.declared.course.Course.TheVariants.{Escape, Run, Broken}
+use Rattle.remote.specs.declared.course.Course.TheVariants.{Broken}
 
 module _ (room : List ℕ) (n b : ℕ) (h : n ≤ length room) where
-  pub plain_escapes : b ≡ 125 → Reads (plain_of (length room) (take n room) b) (Escape n) room
-  unfolding plain_of
-  plain_escapes e = record { same = sym (rw (eq-eqb b 125 e)); within = h }
-
-  pub plain_runs : (b ≡ 125 → ⊥) → b ≡ 42 → Reads (plain_of (length room) (take n room) b) (Run n) room
-  unfolding plain_of
-  plain_runs k e = record { same = sym (rw (ne_eqb b 125 k, eq-eqb b 42 e)); within = h }
-
   run_length : length (take n room) ≡ n
   run_length = length-take-le n room h
 

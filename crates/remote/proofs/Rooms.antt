@@ -1,27 +1,14 @@
 -- Bytes laid behind the payload so far.
 use mathlib.Core.Path.{◌≡◌, ap, sym, ◌∙◌}
-use mathlib.Core.List.{List, [], ◌∷◌, ◌++◌, append_assoc, append-nil}
+use mathlib.Core.List.{List, ◌++◌}
 use Prim.Native.Nat.{ℕ, ◌+◌, ◌-◌, ◌<◌, ◌≤◌}
-use native.Mathlib.Numerals.{add-one}
 use native.Mathlib.Omega.{arith}
 use borrow.Author.Tests.{le-leb, lt-leb}
-use lib.ListN.{length, take, set, replicate, length-replicate, replicate-append-replicate}
-use lib.Seq.{length-take-le, take-suc-set}
+use lib.ListN.{length, take, replicate, length-replicate}
+use lib.Seq.{length-take-le}
 use Rattle.remote.specs.Payload.{plain, added_of}
 use Rattle.remote.specs.Course.{Reads}
 use Rattle.remote.specs.declared.course.Course.TheVariants.{Plain, Broken}
-
--- a byte more of a run
-pub laid_more : (room front : List ℕ) (n i b : ℕ) → n ≤ i → i < length room → take i room ≡ front ++ replicate (i - n) b → take (i + 1) (set room i b) ≡ front ++ replicate (i + 1 - n) b
-laid_more room front n i b l h e =
-    rw (add-one i) (take-suc-set room i b h)
-    ∙ ap (λ s. s ++ b ∷ []) e
-    ∙ append_assoc front (replicate (i - n) b) (b ∷ [])
-    ∙ ap (λ s. front ++ s) (replicate-append-replicate (i - n) 1 b)
-    ∙ (let k : i - n + 1 ≡ i + 1 - n = omega arith in ap (λ j. front ++ replicate j b) k)
-
-pub laid_first : (room : List ℕ) (n b : ℕ) → take n room ≡ take n room ++ replicate (n - n) b
-laid_first room n b = let z : n - n ≡ 0 = omega arith in sym (ap (λ j. take n room ++ replicate j b) z ∙ append-nil (take n room))
 
 module _ (room : List ℕ) (n b times : ℕ) (h : n ≤ length room) where
   added_fits : length (take n room) + length (replicate times b) ≡ n + times

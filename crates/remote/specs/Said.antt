@@ -1,5 +1,5 @@
 -- A reply as a packet.
-use Rattle.std.specs.Prelude.{◌≡◌, Bool, cond, ◌||◌, List, [], ◌∷◌, ◌++◌, ℕ, ◌/◌, ◌%◌, eqb, leb, length, take}
+use Rattle.std.specs.Prelude.{◌≡◌, Bool, cond, ◌||◌, Option, Some, None, unwrap_or, List, [], ◌∷◌, ◌++◌, ℕ, ◌/◌, ◌%◌, eqb, leb, length, take}
 use Rattle.std.specs.Int.Bits.{bit_xor}
 use Rattle.text.specs.Laid.{Laid}
 use Rattle.text.specs.Spelt.{face_of}
@@ -28,9 +28,13 @@ said_of reply = 36 ∷ (body_of reply ++ closing_of (sum_of (body_of reply)))
 unfoldable pub fitted_of : (room : ℕ) → List ℕ → List ℕ
 fitted_of room s = cond (leb (length s) room) s []
 
-pub record Says (reply out after : List ℕ) (n : ℕ) : Type 0 where
-  pub count : n ≡ length (fitted_of (length out) (said_of reply))
-  pub bytes : take n after ≡ fitted_of (length out) (said_of reply)
+-- the length of what the room holds all of
+abbrev pub sized_of : (room : ℕ) → List ℕ → Option ℕ
+sized_of room s = cond (leb (length s) room) (Some (length s)) None
+
+pub record Says (reply out after : List ℕ) (n : Option ℕ) : Type 0 where
+  pub count : n ≡ sized_of (length out) (said_of reply)
+  pub bytes : take (unwrap_or n 0) after ≡ fitted_of (length out) (said_of reply)
 
 -- ---- aids to proofs: nothing that a reader must believe
 -- the body laid, and its checksum

@@ -19,8 +19,8 @@ pub fn decode(body: &[u8], payload: &mut [u8]) -> Course
     ensures { Reads (read_of (length payload.old) body.now) result payload.new }
 {
     let mut course = Course::Plain(0);
-    for i in 0..body.len() {
-        course = turn(course, body[i], payload);
+    for &b in body {
+        course = turn(course, b, payload);
     }
     course
 }
@@ -37,17 +37,16 @@ fn turn(course: Course, b: u8, payload: &mut [u8]) -> Course
     }
 }
 
+#[tactic(auto, unfolding(crate::specs::Payload::plain_of))]
 fn plain(n: usize, b: u8, payload: &mut [u8]) -> Course
     requires { n ≤ length payload.old }
     ensures { Reads (plain_of (length payload.old) (take n payload.old) b) result payload.new }
 {
-    if b == b'}' {
-        return Course::Escape(n);
+    match b {
+        b'}' => Course::Escape(n),
+        b'*' => Course::Run(n),
+        _ => lay(n, b, 1, payload),
     }
-    if b == b'*' {
-        return Course::Run(n);
-    }
-    lay(n, b, 1, payload)
 }
 
 // The byte before, some further times: as many as the byte behind the `*` is above 29, from a space to `~`.
@@ -58,20 +57,13 @@ fn run(n: usize, b: u8, payload: &mut [u8]) -> Course
     if n == 0 {
         return Course::Broken;
     }
-    if b < b' ' {
-        return Course::Broken;
+    match b {
+        b' '..=b'~' => {
+            let last = payload[n - 1];
+            lay(n, last, usize::from(b) - 29, payload)
+        }
+        _ => Course::Broken,
     }
-    if b'~' < b {
-        return Course::Broken;
-    }
-    let last = payload[n - 1];
-    lay(n, last, wide(b) - 29, payload)
-}
-
-fn wide(b: u8) -> usize
-    ensures { result ≡ b }
-{
-    b as usize
 }
 
 // A byte laid some times behind the first `n`.
@@ -83,8 +75,6 @@ fn lay(n: usize, b: u8, times: usize, payload: &mut [u8]) -> Course
         return Course::Broken;
     }
     let to = n + times;
-    for i in n..to {
-        payload[i] = b;
-    }
+    payload[n..to].fill(b);
     Course::Plain(to)
 }

@@ -12,29 +12,23 @@ use crate::sum::{says, sum};
 pub fn hear(input: &[u8], payload: &mut [u8]) -> Heard
     ensures { told_of result payload.new ≡ heard_of input.now (length payload.old) }
 {
-    if input.len() == 0 {
-        return Heard::More;
+    match input {
+        [] => Heard::More,
+        [b'$', ..] => packet(input, payload),
+        [b, ..] => outside(*b),
     }
-    if input[0] != b'$' {
-        return outside(input[0]);
-    }
-    packet(input, payload)
 }
 
 // A byte that stands outside of a packet.
 fn outside(b: u8) -> Heard
     ensures { result ≡ outside_of b }
 {
-    if b == b'+' {
-        return Heard::Ack;
+    match b {
+        b'+' => Heard::Ack,
+        b'-' => Heard::Nak,
+        3 => Heard::Interrupt,
+        _ => Heard::Noise,
     }
-    if b == b'-' {
-        return Heard::Nak;
-    }
-    if b == 3 {
-        return Heard::Interrupt;
-    }
-    Heard::Noise
 }
 
 // What begins with a `$`.
@@ -62,16 +56,8 @@ fn packet(input: &[u8], payload: &mut [u8]) -> Heard
 fn body_end(input: &[u8]) -> usize
     ensures { result ≡ 1 + head_of in_body (drop 1 input.now) }
 {
-    let mut at: usize = 1;
-    loop {
-        if input.len() <= at {
-            break at;
-        }
-        if (input[at] == b'#') | (input[at] == b'$') {
-            break at;
-        }
-        at += 1;
-    }
+    let behind = input.iter().skip(1);
+    1 + behind.take_while(|&&b| !matches!(b, b'#' | b'$')).count()
 }
 
 fn answer(course: Course, used: usize) -> Heard
@@ -79,8 +65,6 @@ fn answer(course: Course, used: usize) -> Heard
 {
     match course {
         Course::Plain(n) => Heard::Packet(used, n),
-        Course::Escape(_) => Heard::Damaged(used),
-        Course::Run(_) => Heard::Damaged(used),
-        Course::Broken => Heard::Damaged(used),
+        Course::Escape(_) | Course::Run(_) | Course::Broken => Heard::Damaged(used),
     }
 }

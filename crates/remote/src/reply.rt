@@ -13,8 +13,8 @@ struct Body {
     sum: u64,
 }
 
-// The length of the packet; 0 where it does not fit, and then nothing is said of what stands in the buffer.
-pub fn say(reply: &[u8], out: &mut [u8]) -> usize
+// The length of the packet. Where it does not fit there is none, and nothing is said of what stands in the buffer.
+pub fn say(reply: &[u8], out: &mut [u8]) -> Option<usize>
     ensures { Says reply.now out.old out.new result }
 {
     let first = text::put_byte(out, 0, b'$');
@@ -22,9 +22,9 @@ pub fn say(reply: &[u8], out: &mut [u8]) -> usize
     let end = text::put_byte(out, body.next, b'#');
     let last = text::put_digit(out, end, body.sum / 16);
     if out.len() <= last {
-        return 0;
+        return None;
     }
-    text::put_digit(out, last, body.sum % 16)
+    Some(text::put_digit(out, last, body.sum % 16))
 }
 
 fn put_body(out: &mut [u8], at: usize, reply: &[u8]) -> Body
@@ -32,14 +32,15 @@ fn put_body(out: &mut [u8], at: usize, reply: &[u8]) -> Body
 {
     let mut next = at;
     let mut sum: u64 = 0;
-    for i in 0..reply.len() {
-        next = put_coded(out, next, reply[i]);
-        sum = added_coded(sum, reply[i]);
+    for &b in reply {
+        next = put_coded(out, next, b);
+        sum = added_coded(sum, b);
     }
     Body { next, sum }
 }
 
 // `#`, `$`, `*` and `}` are laid as a `}` and the byte with bit 5 turned over.
+#[tactic(auto, unfolding(crate::specs::Said::coded_of))]
 fn put_coded(out: &mut [u8], at: usize, b: u8) -> usize
     ensures { Laid out.old at (coded_of b) out.new result }
 {
@@ -50,6 +51,7 @@ fn put_coded(out: &mut [u8], at: usize, b: u8) -> usize
     text::put_byte(out, at, b)
 }
 
+#[tactic(auto, unfolding(crate::specs::Said::coded_of, crate::specs::Sum::total_of))]
 fn added_coded(sum: u64, b: u8) -> u64
     ensures { result ≡ (sum + total_of (coded_of b)) % 256 }
 {
@@ -62,5 +64,5 @@ fn added_coded(sum: u64, b: u8) -> u64
 fn is_coded(b: u8) -> bool
     ensures { result ≡ is_coded b }
 {
-    (b == b'#') | (b == b'$') | (b == b'*') | (b == b'}')
+    matches!(b, b'#' | b'$' | b'*' | b'}')
 }

@@ -2,12 +2,14 @@
 ghost use Rattle.std.specs.Prelude.{◌≡◌, ◌+◌, ◌%◌};
 ghost use Rattle.remote.specs.Sum.{sum_of, says_of};
 
+use text::digit;
+
 pub fn sum(bytes: &[u8]) -> u64
     ensures { result ≡ sum_of bytes.now }
 {
     let mut total: u64 = 0;
-    for i in 0..bytes.len() {
-        total = added(total, bytes[i]);
+    for &b in bytes {
+        total = added(total, b);
     }
     total
 }
@@ -18,16 +20,12 @@ pub fn added(total: u64, b: u8) -> u64
     (total % 256 + b as u64) % 256
 }
 
+#[tactic(auto, unfolding(crate::specs::Sum::says_of))]
 pub fn says(high: u8, low: u8, total: u64) -> bool
     ensures { result ≡ says_of high low total }
 {
-    let h = text::digit(high);
-    let l = text::digit(low);
-    if 16 <= h {
+    let (Some(h), Some(l)) = (digit(high), digit(low)) else {
         return false;
-    }
-    if 16 <= l {
-        return false;
-    }
+    };
     h * 16 + l == total
 }

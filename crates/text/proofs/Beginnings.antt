@@ -13,23 +13,23 @@ use lib.Seq.{drop-append-le, take-append-le, drop-cons}
 use Rattle.text.specs.Head.{head_of}
 use Rattle.text.specs.Digit.{digit_of, is_digit, run_of, value_of}
 use Rattle.text.specs.Number.{held_of, answer_of, digits_of, digits_at, is_hex, decimal_at, number_of}
+use Rattle.std.specs.Prelude.{Some, None, Result, Ok, Err}
 use Rattle.text.specs.declared.found.Number.{Number}
-use Rattle.text.specs.declared.found.Number.TheVariants.{Value, TooLarge, Nothing}
-use Rattle.text.specs.declared.read.Total.TheVariants.{Is}
-use Rattle.text.specs.declared.read.Total.TheVariants as total
+use Rattle.text.specs.declared.found.NoNumber.{NoNumber}
+use Rattle.text.specs.declared.found.NoNumber.TheVariants.{TooLarge, Nothing}
 use Rattle.text.proofs.Common.{behind_same}
 
-abbrev pub Within : ℕ → Number → Type 0
-Within k (Value v next) = next < k
-Within k (TooLarge place) = ⊥
-Within k (Nothing place) = place < k
+abbrev pub Within : ℕ → Result Number NoNumber → Type 0
+Within k (Ok n) = n.to < k
+Within k (Err (TooLarge place)) = ⊥
+Within k (Err (Nothing place)) = place < k
 
 run_within : (first from base : ℕ) (line : List ℕ) (k : ℕ) → Within k (digits_at first from base line) → from + run_of base (drop from line) < k
 unfolding digits_at digits_of
 run_within first from base line k = go (eqb (run_of base (drop from line)) 0) refl (ltb (value_of base (take (run_of base (drop from line)) (drop from line))) (2 ^ 64))
   where
     go : (z : Bool) → eqb (run_of base (drop from line)) 0 ≡ z → (y : Bool)
-        → Within k (cond z (Nothing from) (answer_of (cond y (Is (value_of base (take (run_of base (drop from line)) (drop from line)))) total.TooLarge) first (from + run_of base (drop from line))))
+        → Within k (cond z (Err (Nothing from)) (answer_of (cond y (Some (value_of base (take (run_of base (drop from line)) (drop from line)))) None) first (from + run_of base (drop from line))))
         → from + run_of base (drop from line) < k
     go true e y h = let n : run_of base (drop from line) ≡ 0 = eqb-true _ _ e in omega arith
     go false e true h = h
@@ -47,7 +47,7 @@ module _ (c t t' : List ℕ) where
       let there : take (run_of base (drop from (c ++ t))) (drop from (c ++ t')) ≡ take (run_of base (drop from (c ++ t))) (drop from c)
       = ap (take (run_of base (drop from (c ++ t)))) (drop-append-le from c t' l) ∙ take-append-le _ (drop from c) t' fits in
       ap (λ n. digits_of first from base n (drop from (c ++ t'))) (behind_same c t t' (is_digit base) from h)
-      ∙ ap (λ s. cond (eqb (run_of base (drop from (c ++ t))) 0) (Nothing from) (answer_of (held_of (value_of base s)) first (from + run_of base (drop from (c ++ t))))) (there ∙ sym here)
+      ∙ ap (λ s. cond (eqb (run_of base (drop from (c ++ t))) 0) (Err (Nothing from)) (answer_of (held_of (value_of base s)) first (from + run_of base (drop from (c ++ t))))) (there ∙ sym here)
 
   pub decimal_same : (at : ℕ) → Within (length c) (decimal_at (c ++ t) at) → decimal_at (c ++ t') at ≡ decimal_at (c ++ t) at
   decimal_same at h = digits_same at at 10 (run_within at at 10 (c ++ t) (length c) h)
@@ -106,17 +106,17 @@ module _ (c t t' : List ℕ) (at : ℕ) where
           ∙ decimal_same c t t' at w
 
 -- ---- where a number was read to, or failed
-abbrev pub place_in : Number → ℕ
-place_in (Value v next) = next
-place_in (TooLarge place) = place
-place_in (Nothing place) = place
+abbrev pub place_in : Result Number NoNumber → ℕ
+place_in (Ok n) = n.to
+place_in (Err (TooLarge place)) = place
+place_in (Err (Nothing place)) = place
 
 digits_later : (first from base : ℕ) (line : List ℕ) → first ≤ from → first ≤ place_in (digits_at first from base line)
 unfolding digits_at digits_of
 digits_later first from base line h = go (eqb (run_of base (drop from line)) 0) (ltb (value_of base (take (run_of base (drop from line)) (drop from line))) (2 ^ 64))
   where
     go : (z y : Bool)
-        → first ≤ place_in (cond z (Nothing from) (answer_of (cond y (Is (value_of base (take (run_of base (drop from line)) (drop from line)))) total.TooLarge) first (from + run_of base (drop from line))))
+        → first ≤ place_in (cond z (Err (Nothing from)) (answer_of (cond y (Some (value_of base (take (run_of base (drop from line)) (drop from line)))) None) first (from + run_of base (drop from line))))
     go true y = h
     go false true = omega arith
     go false false = le_refl first

@@ -12,32 +12,32 @@ use lib.Seq.{drop-cons}
 use Rattle.text.specs.Head.{head_of}
 use Rattle.text.specs.Digit.{digit_of, run_of, value_of, value_from}
 use Rattle.text.specs.Number.{answer_of, digits_of, digits_at, is_hex, decimal_at, number_of}
+use Rattle.std.specs.Prelude.{Some, None, Result, Ok, Err}
 use Rattle.text.specs.declared.found.Number.{Number}
-use Rattle.text.specs.declared.found.Number.TheVariants.{Value, TooLarge, Nothing}
-use Rattle.text.specs.declared.read.Total.TheVariants.{Is}
-use Rattle.text.specs.declared.read.Total.TheVariants as total
+use Rattle.text.specs.declared.found.NoNumber.{NoNumber}
+use Rattle.text.specs.declared.found.NoNumber.TheVariants.{TooLarge, Nothing}
 use Rattle.text.proofs.Numbers.{hex_within}
 use Rattle.text.proofs.Beginnings.{place_in}
 
 -- whether it is too large, and whether there is none
-too_large : Number → Bool
-too_large (Value v next) = false
-too_large (TooLarge place) = true
-too_large (Nothing place) = false
+too_large : Result Number NoNumber → Bool
+too_large (Ok n) = false
+too_large (Err (TooLarge place)) = true
+too_large (Err (Nothing place)) = false
 
-missing : Number → Bool
-missing (Value v next) = false
-missing (TooLarge place) = false
-missing (Nothing place) = true
+missing : Result Number NoNumber → Bool
+missing (Ok n) = false
+missing (Err (TooLarge place)) = false
+missing (Err (Nothing place)) = true
 
 -- where there is none, it fails where it is tried
-pub decimal_nothing : (line : List ℕ) (at place : ℕ) → decimal_at line at ≡ Nothing place → place ≡ at
+pub decimal_nothing : (line : List ℕ) (at place : ℕ) → decimal_at line at ≡ Err (Nothing place) → place ≡ at
 unfolding digits_at digits_of missing
 decimal_nothing line at place e =
     go (eqb (run_of 10 (drop at line)) 0) (ltb (value_of 10 (take (run_of 10 (drop at line)) (drop at line))) (2 ^ 64)) e
   where
     go : (z y : Bool)
-        → cond z (Nothing at) (answer_of (cond y (Is (value_of 10 (take (run_of 10 (drop at line)) (drop at line)))) total.TooLarge) at (at + run_of 10 (drop at line))) ≡ Nothing place
+        → cond z (Err (Nothing at)) (answer_of (cond y (Some (value_of 10 (take (run_of 10 (drop at line)) (drop at line)))) None) at (at + run_of 10 (drop at line))) ≡ Err (Nothing place)
         → place ≡ at
     go true y e = sym (ap place_in e)
     go false true e = absurd (false≢true (ap missing e))
@@ -69,10 +69,10 @@ hex_small line at h =
     ap (λ s. too_large (digits_of at at 10 (run_of 10 s) s)) two ∙ zero at (get_or line at 0) (get_or line (at + 1) 0) (drop (suc (at + 1)) line) h
 
 -- and so too large a decimal number is the number at its place
-pub decimal_large : (line : List ℕ) (at place : ℕ) → decimal_at line at ≡ TooLarge place → number_of line at ≡ TooLarge place
+pub decimal_large : (line : List ℕ) (at place : ℕ) → decimal_at line at ≡ Err (TooLarge place) → number_of line at ≡ Err (TooLarge place)
 unfolding number_of too_large
 decimal_large line at place e = go (is_hex line at) refl
   where
-    go : (x : Bool) → is_hex line at ≡ x → cond x (digits_at at (at + 2) 16 line) (decimal_at line at) ≡ TooLarge place
+    go : (x : Bool) → is_hex line at ≡ x → cond x (digits_at at (at + 2) 16 line) (decimal_at line at) ≡ Err (TooLarge place)
     go true h = absurd (false≢true (sym (hex_small line at h) ∙ ap too_large e))
     go false h = e

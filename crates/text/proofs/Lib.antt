@@ -1,5 +1,4 @@
 pub mod Heads
-pub mod Runs
 pub mod Values
 pub mod Laying
 pub mod Spelling

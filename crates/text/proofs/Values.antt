@@ -2,8 +2,8 @@
 use mathlib.Core.Path.{◌≡◌, refl}
 use mathlib.Core.Bool.{Bool, true, false, cond}
 use mathlib.Core.List.{List, [], ◌∷◌}
-use Prim.Native.Nat.{ℕ, ◌+◌, ◌*◌, ◌-◌, ◌/◌, ◌<◌, ◌≤◌, ◌^◌}
-use native.Mathlib.Nat.{le_refl, le_trans, mul-le-mul_left, div-lt_iff_lt-mul, le-div_iff_mul-le}
+use Prim.Native.Nat.{ℕ, ◌+◌, ◌*◌, ◌-◌, ◌<◌, ◌≤◌, ◌^◌}
+use native.Mathlib.Nat.{le_refl, le_trans, mul-le-mul_left}
 use native.Mathlib.Numerals.{add-one}
 use native.Mathlib.Omega.{arith}
 use borrow.Author.Tests.{leb-true, lt-ltb, le-ltb}
@@ -12,7 +12,7 @@ use lib.ListN.{length, get_or, drop, drop_of_length-le}
 use lib.Seq.{drop-cons}
 use Rattle.text.specs.Digit.{digit_of, value_from}
 use Rattle.text.specs.Number.{held_of}
-use Rattle.text.specs.declared.read.Total.TheVariants.{Is, TooLarge}
+use Rattle.std.specs.Prelude.{Some, None}
 
 pub value_past : (base v : ℕ) (s : List ℕ) (i : ℕ) → length s ≤ i → value_from base v (drop i s) ≡ v
 unfolding value_from
@@ -43,29 +43,17 @@ digit_small b = go (ltb b 48) (leb b 57) (ltb b 65) (leb b 70) (ltb b 97) (leb b
 pub worth_small : (b d : ℕ) → d ≡ digit_of b → d ≤ 16
 worth_small b d e = rw e (digit_small b)
 
--- the test before the sum: it says whether 64 bits hold it
-module _ (base v b d : ℕ) (e : d ≡ digit_of b) (h : 1 ≤ base) (l : v ≤ (2 ^ 64 - 1 - d) / base) where
-  pub sum_fits : v * base + d < 2 ^ 64
-  sum_fits =
-      let m : v * base ≤ 2 ^ 64 - 1 - d = (le-div_iff_mul-le h).0 l in
-      omega (arith, worth_small b d e)
-
-  pub product_fits : v * base < 2 ^ 64
-  product_fits = let m : v * base + d < 2 ^ 64 = sum_fits in omega arith
-
--- at a digit that is worth d
-module _ (base v : ℕ) (s : List ℕ) (i d : ℕ) (e : d ≡ digit_of (get_or s i 0)) where
-  pub value_goes : i < length s → value_from base (v * base + d) (drop (i + 1) s) ≡ value_from base v (drop i s)
+-- at a digit
+module _ (base v : ℕ) (s : List ℕ) (i : ℕ) (h : i < length s) where
+  pub value_goes : value_from base (v * base + digit_of (get_or s i 0)) (drop (i + 1) s) ≡ value_from base v (drop i s)
   unfolding value_from
-  value_goes h = rw (drop-cons s i 0 h, add-one i, e)
+  value_goes = rw (drop-cons s i 0 h, add-one i)
 
-  pub sum_over : 1 ≤ base → i < length s → (2 ^ 64 - 1 - d) / base < v → 2 ^ 64 ≤ value_from base v (drop i s)
-  sum_over h k l =
-      let m : 2 ^ 64 - 1 - d < v * base = (div-lt_iff_lt-mul h).0 l in
-      rw (← value_goes k) (le_trans (omega (arith, worth_small (get_or s i 0) d e)) (value_grows base h (v * base + d) (drop (i + 1) s)))
+  pub sum_over : 1 ≤ base → 2 ^ 64 ≤ v * base + digit_of (get_or s i 0) → 2 ^ 64 ≤ value_from base v (drop i s)
+  sum_over k l = rw (← value_goes) (le_trans l (value_grows base k (v * base + digit_of (get_or s i 0)) (drop (i + 1) s)))
 
-pub held : (v : ℕ) → v < 2 ^ 64 → held_of v ≡ Is v
+pub held : (v : ℕ) → v < 2 ^ 64 → held_of v ≡ Some v
 held v h = rw (lt-ltb v (2 ^ 64) h)
 
-pub not_held : (v : ℕ) → 2 ^ 64 ≤ v → held_of v ≡ TooLarge
+pub not_held : (v : ℕ) → 2 ^ 64 ≤ v → held_of v ≡ None
 not_held v h = rw (le-ltb v (2 ^ 64) h)

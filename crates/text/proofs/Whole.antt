@@ -12,7 +12,8 @@ use lib.Seq.{drop-append_seam, drop-append-add, take-append_seam, get_or-append_
 use Rattle.text.specs.Head.{head_of}
 use Rattle.text.specs.Digit.{digit_of, is_digit, run_of, value_of}
 use Rattle.text.specs.Number.{held_of, answer_of, digits_of, digits_at, is_hex, decimal_at, number_of}
-use Rattle.text.specs.declared.found.Number.TheVariants.{TooLarge}
+use Rattle.std.specs.Prelude.{Err}
+use Rattle.text.specs.declared.found.NoNumber.TheVariants.{TooLarge}
 use Rattle.text.proofs.Values.{not_held}
 use Rattle.text.proofs.Digits.{Digits, head_append}
 
@@ -98,5 +99,5 @@ module _ (before s rest : List ℕ) where
 
   -- a number that 64 bits do not hold is refused at its first byte
   pub too_large : (w : Lead) → Digits (base_of w) s → Ends (base_of w) rest → 2 ^ 64 ≤ value_of (base_of w) s
-      → number_of (before ++ (lead_of w ++ (s ++ rest))) (length before) ≡ TooLarge (length before)
+      → number_of (before ++ (lead_of w ++ (s ++ rest))) (length before) ≡ Err (TooLarge (length before))
   too_large w d e h = number_read w d e ∙ ap (λ t. answer_of t (length before) (length before + length (lead_of w) + length s)) (not_held _ h)

@@ -1,8 +1,14 @@
-// What stands at a place of a line where a number is looked for.
+// The number at a place of a line, and why none is read there.
+
+// A number, and the place behind its last digit.
 #[derive(Clone, Copy)]
-pub enum Number {
-    // The value, and the place behind its last digit.
-    Value(u64, usize),
+pub struct Number {
+    pub value: u64,
+    pub to: usize,
+}
+
+#[derive(Clone, Copy)]
+pub enum NoNumber {
     // Above 2^64 - 1: the place of the number's first byte.
     TooLarge(usize),
     // The place of the first byte that begins no number.

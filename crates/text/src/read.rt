@@ -1,21 +1,13 @@
 // The number at a place of a line.
-ghost use Rattle.std.specs.Prelude.{◌≡◌, ◌+◌, ◌≤◌, drop};
-ghost use Rattle.text.specs.Digit.{digit_of, run_of, value_of};
-ghost use Rattle.text.specs.Number.{held_of, answer_of, digits_at, is_hex, decimal_at, number_of};
+ghost use Rattle.std.specs.Prelude.{◌≡◌, ◌<◌, ◌≤◌, length};
+ghost use Rattle.std.specs.Option.{SomeIff};
+ghost use Rattle.text.specs.Digit.{digit_of, is_digit, run_of, value_of};
+ghost use Rattle.text.specs.Number.{held_of, digits_at, is_hex, decimal_at, number_of};
 
-use crate::found::Number;
-
-const LARGEST: u64 = 0xFFFF_FFFF_FFFF_FFFF;
-
-// What digits write, where 64 bits hold it.
-#[derive(Clone, Copy)]
-enum Total {
-    Is(u64),
-    TooLarge,
-}
+use crate::found::{NoNumber, Number};
 
 // `0x` or `0X` and hex digits, or decimal digits.
-pub fn number(line: &[u8], from: usize) -> Number
+pub fn number(line: &[u8], from: usize) -> Result<Number, NoNumber>
     ensures { result ≡ number_of line.now from }
 {
     if is_hex(line, from) {
@@ -25,106 +17,78 @@ pub fn number(line: &[u8], from: usize) -> Number
 }
 
 // Decimal digits alone.
-pub fn decimal(line: &[u8], from: usize) -> Number
+pub fn decimal(line: &[u8], from: usize) -> Result<Number, NoNumber>
     ensures { result ≡ decimal_at line.now from }
 {
     digits(line, from, from, 10)
 }
 
 // Whether `0x` or `0X` stands at a place.
+#[tactic(auto, unfolding(crate::specs::Number::is_hex))]
 fn is_hex(line: &[u8], from: usize) -> bool
     ensures { result ≡ is_hex line.now from }
 {
-    if line.len() <= from {
-        return false;
-    }
-    if line[from] != b'0' {
-        return false;
-    }
-    if line.len() - from < 2 {
-        return false;
-    }
-    (line[from + 1] == b'x') | (line[from + 1] == b'X')
+    matches!(line.get(from..), Some([b'0', b'x' | b'X', ..]))
 }
 
 // The number of the digits at `from`, where it begins at `first`.
-fn digits(line: &[u8], first: usize, from: usize, base: u64) -> Number
-    requires { 1 ≤ base }
+fn digits(line: &[u8], first: usize, from: usize, base: u64) -> Result<Number, NoNumber>
+    requires at_least_1 { 1 ≤ base }
+    requires at_most_16 { base ≤ 16 }
     ensures { result ≡ digits_at first from base line.now }
 {
-    let to = digits_end(line, from, base);
-    if to == from {
-        return Number::Nothing(from);
+    let Some(rest) = line.get(from..) else {
+        return Err(NoNumber::Nothing(from));
+    };
+    let count = run(rest, base);
+    if count == 0 {
+        return Err(NoNumber::Nothing(from));
     }
-    let total = sum(&line[from..to], base);
-    answer(total, first, to)
+    let value = sum(&rest[..count], base).ok_or(NoNumber::TooLarge(first))?;
+    Ok(Number {
+        value,
+        to: from + count,
+    })
 }
 
-fn answer(total: Total, first: usize, next: usize) -> Number
-    ensures { result ≡ answer_of total first next }
+// How many digits a text begins with.
+fn run(rest: &[u8], base: u64) -> usize
+    requires { base ≤ 16 }
+    ensures { result ≡ run_of base rest.now }
 {
-    match total {
-        Total::Is(value) => Number::Value(value, next),
-        Total::TooLarge => Number::TooLarge(first),
-    }
+    rest.iter().take_while(|&&b| is_digit(b, base)).count()
 }
 
-// The place behind the digits at `from`.
-fn digits_end(line: &[u8], from: usize, base: u64) -> usize
-    ensures { result ≡ from + run_of base (drop from line.now) }
-{
-    let mut at = from;
-    loop {
-        if line.len() <= at {
-            break at;
-        }
-        if base <= digit(line[at]) {
-            break at;
-        }
-        at += 1;
-    }
-}
-
-fn sum(digits: &[u8], base: u64) -> Total
-    requires { 1 ≤ base }
+// What digits write, where 64 bits hold it.
+fn sum(digits: &[u8], base: u64) -> Option<u64>
+    requires at_least_1 { 1 ≤ base }
+    requires at_most_16 { base ≤ 16 }
+    requires all_digits { run_of base digits.now ≡ length digits.now }
     ensures { result ≡ held_of (value_of base digits.now) }
 {
     let mut value: u64 = 0;
-    let mut i: usize = 0;
-    loop {
-        if digits.len() <= i {
-            break Total::Is(value);
-        }
-        let d = digit(digits[i]);
-        if (LARGEST - d) / base < value {
-            break Total::TooLarge;
-        }
-        value = value * base + d;
-        i += 1;
+    for &b in digits {
+        value = value.checked_mul(base)?.checked_add(digit(b)?)?;
     }
+    Some(value)
 }
 
-// What a byte is worth as a digit, and 16 where it is none.
-pub fn digit(b: u8) -> u64
-    ensures { result ≡ digit_of b }
+fn is_digit(b: u8, base: u64) -> bool
+    requires { base ≤ 16 }
+    ensures { result ≡ is_digit base b }
 {
-    if b < b'0' {
-        return 16;
+    digit(b).is_some_and(|d| d < base)
+}
+
+// What a byte is worth as a digit.
+#[tactic(auto, unfolding(crate::specs::Digit::digit_of))]
+pub fn digit(b: u8) -> Option<u64>
+    ensures { SomeIff result (digit_of b < 16) (digit_of b) }
+{
+    match b {
+        b'0'..=b'9' => Some((b - b'0') as u64),
+        b'A'..=b'F' => Some((b - b'A' + 10) as u64),
+        b'a'..=b'f' => Some((b - b'a' + 10) as u64),
+        _ => None,
     }
-    if b <= b'9' {
-        return (b - b'0') as u64;
-    }
-    if b < b'A' {
-        return 16;
-    }
-    if b <= b'F' {
-        return (b - b'A' + 10) as u64;
-    }
-    if b < b'a' {
-        return 16;
-    }
-    if b <= b'f' {
-        return (b - b'a' + 10) as u64;
-    }
-    16
 }

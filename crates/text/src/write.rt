@@ -1,14 +1,14 @@
 // Bytes and numbers laid into a buffer from a place on, as many bytes as fit. Each function answers the place behind what it laid.
 ghost use Rattle.std.specs.Prelude.{◌≡◌, [], ◌∷◌, ◌≤◌};
 ghost use Rattle.text.specs.Laid.{Laid};
-ghost use Rattle.text.specs.Spelt.{face_of, low_of, decimal_of, grouped_of, signed_of, within_of, hex_of};
+ghost use Rattle.text.specs.Spelt.{face_of, low_of, decimal_of, grouped_of, signed_of, hex_of};
 
 pub fn put(out: &mut [u8], at: usize, bytes: &[u8]) -> usize
     ensures { Laid out.old at bytes.now out.new result }
 {
     let mut next = at;
-    for i in 0..bytes.len() {
-        next = put_byte(out, next, bytes[i]);
+    for &b in bytes {
+        next = put_byte(out, next, b);
     }
     next
 }
@@ -53,19 +53,7 @@ pub fn put_hex(out: &mut [u8], at: usize, value: u64, digits: usize) -> usize
     ensures { Laid out.old at (hex_of digits value) out.new result }
 {
     let next = put(out, at, b"0x");
-    put_low(out, next, value, 16, within(digits))
-}
-
-fn within(digits: usize) -> usize
-    ensures { result ≡ within_of digits }
-{
-    if digits < 1 {
-        return 1;
-    }
-    if 16 < digits {
-        return 16;
-    }
-    digits
+    put_low(out, next, value, 16, digits.clamp(1, 16))
 }
 
 // The `count` low digits of a value.
@@ -87,6 +75,7 @@ pub fn put_digit(out: &mut [u8], at: usize, digit: u64) -> usize
     put_byte(out, at, face(digit))
 }
 
+#[tactic(auto, unfolding(crate::specs::Spelt::face_of))]
 fn face(digit: u64) -> u8
     ensures { result ≡ face_of digit }
 {
@@ -104,14 +93,4 @@ pub fn put_byte(out: &mut [u8], at: usize, byte: u8) -> usize
     }
     out[at] = byte;
     at + 1
-}
-
-// As much as both have.
-pub fn smaller(a: usize, b: usize) -> usize
-    ensures { (result ≤ a) × (result ≤ b) }
-{
-    if a < b {
-        return a;
-    }
-    b
 }

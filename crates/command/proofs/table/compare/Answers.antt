@@ -4,4 +4,4 @@ use Rattle.command.proofs.table.compare.Goals as goal
 
 pub returns : goal.returns
 unfolding compare_of
-returns c = rw (c.end-mark.ensures, c.named-folder.ensures, c.word.ensures)
+returns c = rw (c.judged.ensures, c.end.ensures, c.named-folder.ensures, c.word.ensures)

@@ -1,20 +1,22 @@
--- `piece::mark::behind_agreed` meets its contract. The loop's invariant: the bytes at `at` that agree with the word from i on end where those at `from` do.
-use mathlib.Core.Path.{refl, sym, ◌∙◌}
-use native.Mathlib.Omega.{arith}
-use Rattle.piece.proofs.Agreed.{stands_within, agreed_end, agreed_goes, agreed_stops}
+-- `piece::mark::behind_agreed` meets its contract.
+use Rattle.std.proofs.Common.{ℕ, eqb, ◌+◌, drop, ap, ◌∙◌, rules, tests}
+use Rattle.std.specs.List.{zip}
+use Rattle.std.proofs.lemmas.Iterator.{YieldsList-from_slice, YieldsList-from_zip}
+use Rattle.std.proofs.lemmas.Iterator.Adapters.{YieldsList-from_skip}
+use Rattle.std.proofs.lemmas.Iterator.Consumers.{count_from_yields_List}
+use Rattle.std.proofs.lemmas.Iterator.Search.{YieldsList-from_take_while}
+use Rattle.std.proofs.lemmas.List.Folds.{length-prefix_len}
+use Rattle.piece.proofs.Agreed.{agreed_is}
 use Rattle.piece.proofs.mark.behind_agreed.Goals as goal
 
-pub loop-i-init : goal.loop-i-init
-loop-i-init c = refl
-
-pub overflow_add-at : goal.overflow_add-at
-overflow_add-at c = record { fits = omega (arith, stands_within _ _ _ (sym c.stands.ensures ∙ c.if-not-stands.false)) }
-
-pub loop-i-preserved : goal.loop-i-preserved
-loop-i-preserved c = agreed_goes _ _ _ _ c.if-bytes-i.false (sym c.stands.ensures ∙ c.if-not-stands.false) ∙ c.loop-i.invariant
-
-pub returns-then-bytes-i : goal.returns-then-bytes-i
-returns-then-bytes-i c = sym (agreed_end _ _ _ _ c.if-bytes-i.true) ∙ c.loop-i.invariant
-
-pub returns-then-not-stands : goal.returns-then-not-stands
-returns-then-not-stands c = sym (agreed_stops _ _ _ _ c.if-bytes-i.false (sym c.stands.ensures ∙ c.if-not-stands.true)) ∙ c.loop-i.invariant
+pub returns : goal.returns
+returns c =
+    let line = c.args.line.now in
+    let bytes = c.args.bytes.now in
+    ap (λ n. c.args.from + n)
+    (count_from_yields_List c.take_while.result _ c.count.ensures.ran
+    (YieldsList-from_take_while _ (λ (p : ℕ × ℕ). eqb p.0 p.1)
+    (YieldsList-from_zip (YieldsList-from_skip c.args.from (YieldsList-from_slice line cc) cc) (YieldsList-from_slice bytes cc))
+    c.take_while.ensures.closure c.take_while.ensures.done (λ x b q k. search (rules, tests)))
+    ∙ length-prefix_len (λ (p : ℕ × ℕ). eqb p.0 p.1) (zip (drop c.args.from line) bytes)
+    ∙ agreed_is bytes (drop c.args.from line))

@@ -1,18 +1,20 @@
--- `piece::mark::behind_spaces` meets its contract. The loop's invariant: what stands at `at` ends where what stands at `from` does.
-use mathlib.Core.Path.{refl, sym, ◌∙◌}
-use borrow.Author.Tests.{eq-eqb, ne_eqb}
-use Rattle.text.proofs.Heads.{head_past, head_stops, head_goes}
+-- `piece::mark::behind_spaces` meets its contract.
+use Rattle.std.proofs.Common.{◌+◌, drop, ap, ◌∙◌, rules, tests}
+use Rattle.std.proofs.lemmas.Iterator.{YieldsList-from_slice}
+use Rattle.std.proofs.lemmas.Iterator.Adapters.{YieldsList-from_skip}
+use Rattle.std.proofs.lemmas.Iterator.Consumers.{count_from_yields_List}
+use Rattle.std.proofs.lemmas.Iterator.Search.{YieldsList-from_take_while}
+use Rattle.std.proofs.lemmas.List.Folds.{length-prefix_len}
+use Rattle.text.proofs.Heads.{head_is}
 use Rattle.piece.specs.Mark.{is_space}
 use Rattle.piece.proofs.mark.behind_spaces.Goals as goal
 
-pub loop-at-init : goal.loop-at-init
-loop-at-init c = refl
-
-pub loop-at-preserved : goal.loop-at-preserved
-loop-at-preserved c = head_goes is_space _ _ c.if-line-at.false (eq-eqb _ _ c.if-line-at-ne32.false) ∙ c.loop-at.invariant
-
-pub returns-then-line-at : goal.returns-then-line-at
-returns-then-line-at c = sym (head_past is_space _ _ c.if-line-at.true) ∙ c.loop-at.invariant
-
-pub returns-then-line-at-ne32 : goal.returns-then-line-at-ne32
-returns-then-line-at-ne32 c = sym (head_stops is_space _ _ c.if-line-at.false (ne_eqb _ _ c.if-line-at-ne32.true)) ∙ c.loop-at.invariant
+pub returns : goal.returns
+returns c =
+    let line = c.args.line.now in
+    let rest = drop c.args.from line in
+    ap (λ n. c.args.from + n)
+    (count_from_yields_List c.take_while.result _ c.count.ensures.ran
+    (YieldsList-from_take_while _ is_space (YieldsList-from_skip c.args.from (YieldsList-from_slice line cc) cc) c.take_while.ensures.closure c.take_while.ensures.done (λ x b q k. search (rules, tests)))
+    ∙ length-prefix_len is_space rest
+    ∙ head_is is_space rest)

@@ -1,11 +1,5 @@
--- `piece::mark::counted` meets its contract, by cases.
+-- `piece::mark::counted` meets its contract.
 use Rattle.piece.proofs.mark.counted.Goals as goal
 
-pub returns-in-Value : goal.returns-in-Value
-returns-in-Value c = rw (c.in-Value.is, c.goes_on.ensures)
-
-pub returns-in-TooLarge : goal.returns-in-TooLarge
-returns-in-TooLarge c = rw (c.in-TooLarge.is, c.fails.ensures)
-
-pub returns-in-Nothing : goal.returns-in-Nothing
-returns-in-Nothing c = rw (c.in-Nothing.is, c.fails-in-Nothing.ensures)
+pub returns-in-Ok : goal.returns-in-Ok
+returns-in-Ok c = rw (c.in-Ok.is, c.goes_on.ensures)

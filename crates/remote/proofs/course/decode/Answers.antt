@@ -1,32 +1,15 @@
--- `remote::course::decode` meets its contract. The loop's invariant: the bytes from i on, read behind those before, are read as all of them are.
-use mathlib.Core.Path.{refl}
-use Prim.Native.Nat.{◌≤◌, ◌<◌}
-use native.Mathlib.Omega.{arith}
-use lib.ListN.{length}
+-- `remote::course::decode` meets its contract.
+use Rattle.std.proofs.Common.{arith}
 use Rattle.remote.proofs.Courses.{steps_more, steps_done}
 use borrow.Author.Rules.{rules}
 use Rattle.remote.proofs.course.decode.Goals as goal
 
-pub loop-i-init : goal.loop-i-init
-loop-i-init c = (search rules, search rules, refl, search rules, refl)
-
-pub turn-course-requires : goal.turn-course-requires
-turn-course-requires c = c.loop-i.invariant.3
-
-pub loop-i-preserved : goal.loop-i-preserved
-loop-i-preserved c =
-    let h : c.loop-i.i < length c.args.body.now = omega arith in (
-      search rules,
-      search rules,
-      search rules,
-      c.turn-course.ensures.within,
-      steps_more _ c.loop-i.payload c.loop-i.course _ _ _ c.loop-i.invariant.4 c.loop-i.invariant.2 h c.turn-course.ensures,
-    )
-
-pub shape_of-payload : goal.shape_of-payload
-shape_of-payload c = c.loop-i.invariant.2
+pub loop-b-preserved : goal.loop-b-preserved
+loop-b-preserved c = record {
+  room = search rules;
+  within = c.turn-course.ensures.within;
+  told = steps_more _ c.loop-b.payload c.loop-b.course _ _ _ c.loop-b.invariant.told c.loop-b.invariant.room c.loop-b-test.true c.turn-course.ensures;
+}
 
 pub returns : goal.returns
-returns c =
-    let h : length c.args.body.now ≤ c.loop-i.i = omega arith in
-    steps_done _ _ _ _ _ _ c.loop-i.invariant.4 h c.loop-i.invariant.3
+returns c = steps_done _ _ _ _ c.loop-b.b-index _ c.loop-b.invariant.told (omega arith) c.loop-b.invariant.within

@@ -1,13 +1,14 @@
 -- `remote::frame::hear` meets its contract.
 use mathlib.Core.Path.{sym, ◌∙◌}
+use Rattle.std.proofs.Common.{arith, rules}
 use Rattle.remote.proofs.Frames.{heard_none, told_outside, heard_packet}
 use Rattle.remote.proofs.frame.hear.Goals as goal
 
-pub returns-then-input-eq0 : goal.returns-then-input-eq0
-returns-then-input-eq0 c = sym (heard_none _ _ c.if-input-eq0.true)
+pub returns-in-empty : goal.returns-in-empty
+returns-in-empty c = sym (heard_none _ _ (omega arith))
 
-pub returns-then-input-ne36 : goal.returns-then-input-ne36
-returns-then-input-ne36 c = told_outside _ _ c.if-input-eq0.false c.if-input-ne36.true _ _ c.outside.ensures
+pub returns-in-36 : goal.returns-in-36
+returns-in-36 c = c.packet.ensures ∙ sym (heard_packet _ _ (λ z. omega arith) (search rules))
 
-pub returns : goal.returns
-returns c = c.packet.ensures ∙ sym (heard_packet _ _ c.if-input-eq0.false c.if-input-ne36.false)
+pub returns-in-len1-up : goal.returns-in-len1-up
+returns-in-len1-up c = told_outside _ _ (λ z. omega arith) (search rules) _ _ c.outside.ensures

@@ -1,14 +1,7 @@
--- `remote::reply::put_body` meets its contract. The loop's invariant: the first i bytes are laid, and the checksum is theirs.
-use mathlib.Core.Path.{◌≡◌}
-use Prim.Native.Nat.{◌-◌, ◌≤◌}
-use lib.ListN.{length, take}
-use Rattle.text.specs.Laid.{Laid}
-use Rattle.remote.specs.Sum.{sum_of}
-use Rattle.remote.specs.Said.{body_of}
+-- `remote::reply::put_body` meets its contract. The loop's invariant: the bytes so far are laid, and the checksum is theirs.
+use lib.ListN.{take}
+use Rattle.remote.specs.Said.{Bodied}
 use Rattle.remote.proofs.reply.put_body.Given as goal
 
-abbrev pub invariant-loop-i : goal.invariant-loop-i
-invariant-loop-i l = (l.i ≤ l.i-end) × (l.i-end ≡ length l.reply) × Laid l.initial.out l.at (body_of (take l.i l.reply)) l.out l.next × (l.sum ≡ sum_of (body_of (take l.i l.reply)))
-
-abbrev pub decreases-loop-i : goal.decreases-loop-i
-decreases-loop-i l = l.i-end - l.i
+abbrev pub invariant-loop-b : goal.invariant-loop-b
+invariant-loop-b l = Bodied l.initial.out l.at (take l.b-index l.reply) l.out (record { next = l.next; sum = l.sum })

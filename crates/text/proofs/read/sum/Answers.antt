@@ -1,34 +1,33 @@
--- `text::read::sum` meets its contract. The loop's invariant: the digits from i on, behind those before, write what all of them write.
--- Where 64 bits do not hold the sum so far, they do not hold the whole, which is no less.
-use mathlib.Core.Path.{refl, sym, ◌∙◌, ap}
-use native.Mathlib.Omega.{arith}
-use borrow.Author.Rules.{rules}
+-- `text::read::sum` meets its contract: where 64 bits do not hold the sum so far, they do not hold the whole, which is no less.
+use Rattle.std.proofs.Common.{◌≡◌, ◌+◌, ◌*◌, ◌∙◌, sym, ap, get_or, arith}
+use borrow.Author.Tests.{ltb-true}
+use Rattle.text.specs.Digit.{digit_of, is_digit}
 use Rattle.text.specs.Number.{held_of}
-use Rattle.text.proofs.Values.{value_past, value_goes, product_fits, sum_fits, sum_over, held, not_held, worth_small}
+use Rattle.text.proofs.Heads.{head_each}
+use Rattle.text.proofs.Values.{value_past, value_goes, sum_over, held, not_held}
 use Rattle.text.proofs.read.sum.Goals as goal
 
-pub loop-i-init : goal.loop-i-init
-loop-i-init c = (search rules, refl)
+pub returns-in_err-checked_mul : goal.returns-in_err-checked_mul
+returns-in_err-checked_mul c =
+    rw c.from_residual.ensures
+    (sym (ap held_of (sym c.loop-b.invariant.same) ∙ not_held _ (sum_over _ _ _ c.loop-b.b-index c.loop-b-test.true c.requires.at_least_1 (omega (arith, c.in_err-checked_mul.ensures)))))
 
-pub overflow_sub-d : goal.overflow_sub-d
-overflow_sub-d c = omega (arith, worth_small _ _ c.digit-d.ensures)
+pub returns-in_err-digit : goal.returns-in_err-digit
+returns-in_err-digit c =
+    let d = head_each (is_digit c.args.base) c.args.digits.now c.loop-b.b-index c.loop-b-test.true c.loop-b.invariant.digits in
+    let l = ltb-true _ _ d.0 in
+    absurd (omega arith)
 
-pub overflow_mul-value : goal.overflow_mul-value
-overflow_mul-value c = record { fits = product_fits _ _ _ _ c.digit-d.ensures c.requires c.if-d-base.false }
+pub returns-in_err-value : goal.returns-in_err-value
+returns-in_err-value c =
+    rw c.from_residual-in_err-value.ensures
+    (sym (ap held_of (sym c.loop-b.invariant.same) ∙ not_held _ (sum_over _ _ _ c.loop-b.b-index c.loop-b-test.true c.requires.at_least_1 (omega arith))))
 
-pub overflow_add-value : goal.overflow_add-value
-overflow_add-value c = record { fits = sum_fits _ _ _ _ c.digit-d.ensures c.requires c.if-d-base.false }
+pub loop-b-preserved : goal.loop-b-preserved
+loop-b-preserved c =
+    let d = head_each (is_digit c.args.base) c.args.digits.now c.loop-b.b-index c.loop-b-test.true c.loop-b.invariant.digits in
+    let e : c.in_ok-value.value ≡ c.loop-b.value * c.args.base + digit_of (get_or c.args.digits.now c.loop-b.b-index 0) = omega arith in
+    record { fits = omega arith; same = rw e (value_goes _ _ _ _ c.loop-b-test.true ∙ c.loop-b.invariant.same); digits = d.1 }
 
-pub loop-i-preserved : goal.loop-i-preserved
-loop-i-preserved c = (
-  sum_fits _ _ _ _ c.digit-d.ensures c.requires c.if-d-base.false,
-  value_goes _ _ _ _ _ c.digit-d.ensures c.if-digits-i.false ∙ c.loop-i.invariant.1,
-)
-
-pub returns-then-digits-i : goal.returns-then-digits-i
-returns-then-digits-i c = sym (ap held_of (sym c.loop-i.invariant.1 ∙ value_past _ _ _ _ c.if-digits-i.true) ∙ held _ c.loop-i.invariant.0)
-
-pub returns-then-d-base : goal.returns-then-d-base
-returns-then-d-base c =
-    sym (ap held_of (sym c.loop-i.invariant.1)
-    ∙ not_held _ (sum_over _ _ _ _ _ c.digit-d.ensures c.requires c.if-digits-i.false c.if-d-base.true))
+pub returns : goal.returns
+returns c = sym (ap held_of (sym c.loop-b.invariant.same ∙ value_past _ _ _ c.loop-b.b-index (omega arith)) ∙ held _ c.loop-b.invariant.fits)

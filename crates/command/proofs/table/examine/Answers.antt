@@ -1,5 +1,0 @@
--- `command::table::examine` meets its contract.
-use Rattle.command.proofs.table.examine.Goals as goal
-
-pub returns : goal.returns
-returns c = rw c.looking-seen.ensures

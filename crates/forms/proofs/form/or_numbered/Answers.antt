@@ -1,7 +1,0 @@
--- `forms::form::or_numbered` meets its contract.
-use mathlib.Core.Path.{refl}
-use Rattle.forms.proofs.Best.{or_both}
-use Rattle.forms.proofs.form.or_numbered.Goals as goal
-
-pub returns : goal.returns
-returns c = or_both c.better.ensures refl c.numbered.ensures
