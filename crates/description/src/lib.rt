@@ -1,20 +1,43 @@
 // The target description. gdb wants the features cpu, cp0 and fpu, and the osabi none: without it, it would not ask for single steps.
 #![tactic(auto)]
 
-use phrase::template::{fill_row, four};
+ghost use Rattle.std.specs.Prelude.{◌<◌};
+
+use phrase::lay;
+use std::fmt;
 use text::put;
 
+// A register of one letter, by its number among those and by gdb's.
+#[derive(Clone, Copy)]
+struct Register {
+    letter: char,
+    own: u64,
+    number: u64,
+}
+
+impl fmt::Display for Register {
+    fn fmt<W: fmt::Write>(&self, f: &mut fmt::Formatter<W>) -> fmt::Result {
+        write!(
+            f,
+            "<reg name=\"{}{}\" bitsize=\"32\" regnum=\"{}\"/>",
+            self.letter, self.own, self.number
+        )
+    }
+}
+
 // Registers of one letter, numbered from 0, by gdb's numbers from `first` on.
-fn numbered(out: &mut [u8], at: usize, row: u64, first: u64) -> usize {
+fn numbered(out: &mut [u8], at: usize, letter: char, first: u64) -> usize {
     let mut next = at;
-    for n in 0..32 {
-        next = fill_row(
+    for own in 0..32 {
+        let number = first % 256 + own;
+        next = lay(
             out,
             next,
-            b"<reg name=\"r%d\" bitsize=\"32\" regnum=\"%d\"/>|\
-            <reg name=\"f%d\" bitsize=\"32\" regnum=\"%d\"/>",
-            row,
-            four(n, first % 256 + n, 0, 0),
+            Register {
+                letter,
+                own,
+                number,
+            },
         );
     }
     next
@@ -28,7 +51,7 @@ fn processor(out: &mut [u8], at: usize) -> usize {
         <architecture>mips:3000</architecture><osabi>none</osabi>\n\
         <feature name=\"org.gnu.gdb.mips.cpu\">",
     );
-    let at = numbered(out, at, 0, 0);
+    let at = numbered(out, at, 'r', 0);
     put(
         out,
         at,
@@ -42,7 +65,7 @@ fn processor(out: &mut [u8], at: usize) -> usize {
 // There is no floating point: these are always 0.
 fn floating(out: &mut [u8], at: usize) -> usize {
     let at = put(out, at, b"<feature name=\"org.gnu.gdb.mips.fpu\">");
-    let at = numbered(out, at, 1, 38);
+    let at = numbered(out, at, 'f', 38);
     put(
         out,
         at,
@@ -78,18 +101,14 @@ fn laid(out: &mut [u8]) -> usize {
     machine(out, at)
 }
 
-fn byte(bytes: &[u8], at: usize) -> u8 {
-    if bytes.len() <= at {
-        return 0;
-    }
-    bytes[at]
-}
-
 // So many bytes of the text, from `offset` on, come to place 1.
-fn moved(out: &mut [u8], offset: usize, count: usize) {
-    for i in 0..count {
-        let b = byte(out, i % 65536 + 1 + offset % 65536);
-        text::put_byte(out, i % 65536 + 1, b);
+fn moved(out: &mut [u8], offset: usize, count: usize)
+    requires offset_small { offset < 65536 }
+    requires count_small { count < 16384 }
+{
+    let from = offset + 1;
+    if from + count <= out.len() {
+        out.copy_within(from..from + count, 1);
     }
 }
 
@@ -98,16 +117,10 @@ pub fn part(out: &mut [u8], offset: u64, most: u64) -> usize {
     let end = laid(out);
     let offset = (offset % 65536) as usize;
     let most = (most % 16384) as usize;
-    if end <= offset + 1 {
-        return put(out, 0, b"l");
-    }
-    let left = end - 1 - offset;
-    if left <= most {
-        put(out, 0, b"l");
-        moved(out, offset, left);
-        return left + 1;
-    }
-    put(out, 0, b"m");
-    moved(out, offset, most);
-    most + 1
+    let left = end.saturating_sub(offset + 1);
+    let count = left.min(most);
+    let mark = if left <= most { b"l" } else { b"m" };
+    let at = put(out, 0, mark);
+    moved(out, offset, count);
+    at.saturating_add(count)
 }

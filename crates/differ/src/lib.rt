@@ -1,161 +1,116 @@
 // In what two stations differ: the words of the state, and how many bytes of RAM, paper and journal.
 #![tactic(auto)]
 
-ghost use Rattle.std.specs.Prelude.{◌≤◌};
+mod word_name; // the words of the state image by name
 
-use phrase::template::{fill_row, four};
+use crate::word_name::WordName;
+use phrase::{Address, Grouped, Word};
+use std::fmt;
+use std::fmt::InlineText;
 
-fn word(out: &mut [u8], at: usize, image: &[u8], other: &[u8], k: usize) -> usize {
-    let here = image::word(image, k);
-    let there = image::word(other, k);
-    if here == there {
-        return at;
-    }
-    fill_row(
-        out,
-        at,
-        b"  %n%>%w  %w\n",
-        0,
-        four(k as u64, 26, here, there),
-    )
-}
-
-fn words(out: &mut [u8], at: usize, image: &[u8], other: &[u8]) -> usize {
-    let mut next = at;
-    for k in 0..image::WORDS {
-        next = word(out, next, image, other, k);
-    }
-    next
-}
-
-// Row 1 if nothing was laid.
-fn nothing(from: usize, to: usize) -> u64 {
-    if from == to {
-        return 1;
-    }
-    0
-}
-
-fn states(out: &mut [u8], at: usize, image: &[u8], other: &[u8]) -> usize {
-    let from = fill_row(
-        out,
-        at,
-        b"State: what differs       here        there\n",
-        0,
-        four(0, 0, 0, 0),
-    );
-    let to = words(out, from, image, other);
-    fill_row(
-        out,
-        to,
-        b"|  nothing\n",
-        nothing(from, to),
-        four(0, 0, 0, 0),
-    )
-}
-
-// How many bytes differ, and the place of the first.
+// What is compared of a station.
 #[derive(Clone, Copy)]
-struct Difference {
-    count: u64,
-    first: usize,
+pub struct Station<'a> {
+    pub image: &'a [u8],
+    pub ram: &'a [u8],
+    pub paper: &'a [u8],
+    pub journal: &'a [u8],
 }
 
-fn counted(d: Difference, place: usize, here: u8, there: u8) -> Difference {
-    if here == there {
-        return d;
-    }
-    let first = if d.count == 0 { place } else { d.first };
-    Difference {
-        count: std::num::wrapping_add_u64(d.count, 1),
-        first,
-    }
-}
-
-fn shorter(a: usize, b: usize) -> usize
-    ensures { (result ≤ a) × (result ≤ b) }
-{
-    if a < b {
-        return a;
-    }
-    b
-}
-
-// Of the bytes that both have.
-fn counting(here: &[u8], there: &[u8]) -> Difference {
-    let len = shorter(here.len(), there.len());
-    let mut d = Difference { count: 0, first: 0 };
-    for i in 0..len {
-        d = counted(d, i, here[i], there[i]);
-    }
-    d
-}
-
-// What is said of two buffers: the first, second or third of their rows in the table below, and its two values.
+// In what a station here differs from another.
 #[derive(Clone, Copy)]
-struct Judged {
-    row: u64,
-    a: u64,
-    b: u64,
+pub struct Comparison<'a> {
+    pub here: Station<'a>,
+    pub there: Station<'a>,
+}
+
+// Two images that are compared.
+#[derive(Clone, Copy)]
+struct States<'a> {
+    here: &'a [u8],
+    there: &'a [u8],
+}
+
+// What is said of two buffers.
+#[derive(Clone, Copy)]
+enum Judged {
+    Lengths { here: usize, there: usize },
+    Same,
+    // How many bytes differ, and the address of the first.
+    Differ { count: usize, first: u64 },
 }
 
 // `from` is the address of the first byte.
 fn judge(here: &[u8], there: &[u8], from: u64) -> Judged {
     if here.len() != there.len() {
-        return Judged {
-            row: 0,
-            a: here.len() as u64,
-            b: there.len() as u64,
+        return Judged::Lengths {
+            here: here.len(),
+            there: there.len(),
         };
     }
-    let d = counting(here, there);
-    let row = if d.count == 0 { 1 } else { 2 };
-    Judged {
-        row,
-        a: d.count,
-        b: std::num::wrapping_add_u64(from, d.first as u64),
+    match here.iter().zip(there).position(|(a, b)| a != b) {
+        None => Judged::Same,
+        Some(first) => Judged::Differ {
+            count: here.iter().zip(there).filter(|(a, b)| a != b).count(),
+            first: from.wrapping_add(first as u64),
+        },
     }
 }
 
-fn part(out: &mut [u8], at: usize, row: u64, v: Judged) -> usize {
-    fill_row(
-        out,
-        at,
-        b"RAM: %g bytes here, %g there\n|\
-        RAM: the same\n|\
-        RAM: %g bytes differ, the first at %a\n|\
-        paper: %g bytes here, %g there\n|\
-        paper: the same\n|\
-        paper: %g bytes differ, the first at %a\n|\
-        journal: %g bytes here, %g there\n|\
-        journal: the same\n|\
-        journal: %g bytes differ, the first at %a\n",
-        row,
-        four(v.a, v.b, 0, 0),
-    )
+impl fmt::Display for Judged {
+    fn fmt<W: fmt::Write>(&self, f: &mut fmt::Formatter<W>) -> fmt::Result {
+        match *self {
+            Judged::Lengths { here, there } => write!(
+                f,
+                "{} bytes here, {} there",
+                Grouped(here as u64),
+                Grouped(there as u64),
+            ),
+            Judged::Same => f.write_str("the same"),
+            Judged::Differ { count, first } => write!(
+                f,
+                "{} bytes differ, the first at {}",
+                Grouped(count as u64),
+                Address(first),
+            ),
+        }
+    }
 }
 
-fn bytes(out: &mut [u8], at: usize, ram: Judged, paper: Judged, journal: Judged) -> usize {
-    let at = part(out, at, ram.row % 3, ram);
-    let at = part(out, at, paper.row % 3 + 3, paper);
-    part(out, at, journal.row % 3 + 6, journal)
+impl States<'_> {
+    fn differ_at(&self, k: usize) -> bool {
+        image::word(self.here, k) != image::word(self.there, k)
+    }
 }
 
-// In what a station differs from another.
-pub fn stations(
-    out: &mut [u8],
-    image: &[u8],
-    ram: &[u8],
-    paper: &[u8],
-    journal: &[u8],
-    other_image: &[u8],
-    other_ram: &[u8],
-    other_paper: &[u8],
-    other_journal: &[u8],
-) -> usize {
-    let ram = judge(ram, other_ram, 0x2000_0000);
-    let paper = judge(paper, other_paper, 0);
-    let journal = judge(journal, other_journal, 0);
-    let at = states(out, 0, image, other_image);
-    bytes(out, at, ram, paper, journal)
+impl fmt::Display for States<'_> {
+    fn fmt<W: fmt::Write>(&self, f: &mut fmt::Formatter<W>) -> fmt::Result {
+        if !(0..image::WORDS).any(|k| self.differ_at(k)) {
+            return f.write_str("  nothing\n");
+        }
+        for k in (0..image::WORDS).filter(|&k| self.differ_at(k)) {
+            let here = Word(image::word(self.here, k));
+            let there = Word(image::word(self.there, k));
+            let name = InlineText::<24>::of(WordName(k));
+            write!(f, "  {:<24}{here}  {there}\n", name.as_str())?;
+        }
+        Ok(())
+    }
+}
+
+impl fmt::Display for Comparison<'_> {
+    fn fmt<W: fmt::Write>(&self, f: &mut fmt::Formatter<W>) -> fmt::Result {
+        let Comparison { here, there } = *self;
+        write!(
+            f,
+            "State: what differs       here        there\n{}RAM: {}\npaper: {}\njournal: {}\n",
+            States {
+                here: here.image,
+                there: there.image,
+            },
+            judge(here.ram, there.ram, 0x2000_0000),
+            judge(here.paper, there.paper, 0),
+            judge(here.journal, there.journal, 0),
+        )
+    }
 }

@@ -1,97 +1,102 @@
 // Who changed a word of RAM, and when its frame was changed.
-use crate::{BEFORE, FOUND, Message, NO_CHANGE};
+use phrase::{Address, Grouped, Steps, Word};
+use std::fmt;
 
 // The step that changed the word at `address`.
 #[derive(Clone, Copy)]
 pub struct Culprit {
     pub address: u64,
     pub ago: u64,
-    pub old: u64,
-    pub new: u64,
+    pub old: u32,
+    pub new: u32,
     pub clock: u64,
-    pub pc: u64,
-    pub instruction: u64,
+    pub pc: u32,
+    pub instruction: u32,
 }
 
-// What is said of the frame that a word lies in: a row of the table in `say_frame`, the frame's first address, and the clock of its last change.
+// What is known of the last change of a word.
+#[derive(Clone, Copy)]
+pub enum Change {
+    Found(Culprit),
+    // The machine stands just before that step.
+    Stood(Culprit),
+    // No step on hand changed `address`.
+    NotOnHand {
+        address: u64,
+        holds: u32,
+        on_hand: u64,
+    },
+}
+
+fn found<W: fmt::Write>(f: &mut fmt::Formatter<W>, c: Culprit) -> fmt::Result {
+    let address = Address(c.address);
+    write!(
+        f,
+        "{address} was last changed {} ago, from {} to {}:\n\
+        \x20 clock {} (after its tick)\n\
+        \x20 PC {}, instruction {}\n\
+        To stand just before that step: before {address}\n",
+        Steps(c.ago),
+        Word(c.old),
+        Word(c.new),
+        Grouped(c.clock),
+        Word(c.pc),
+        Word(c.instruction)
+    )
+}
+
+fn stood<W: fmt::Write>(f: &mut fmt::Formatter<W>, c: Culprit) -> fmt::Result {
+    write!(
+        f,
+        "Took back {}.\n\
+        The next step changes {} from {} to {},\n\
+        by the instruction {}.\n",
+        Steps(c.ago),
+        Address(c.address),
+        Word(c.old),
+        Word(c.new),
+        Word(c.instruction)
+    )
+}
+
+impl fmt::Display for Change {
+    fn fmt<W: fmt::Write>(&self, f: &mut fmt::Formatter<W>) -> fmt::Result {
+        match *self {
+            Change::Found(culprit) => found(f, culprit),
+            Change::Stood(culprit) => stood(f, culprit),
+            Change::NotOnHand {
+                address,
+                holds,
+                on_hand,
+            } => write!(
+                f,
+                "No step on hand changed {}, which holds {}.\n\
+                On hand: {}. An older change is not in the journal any more.\n",
+                Address(address),
+                Word(holds),
+                Steps(on_hand)
+            ),
+        }
+    }
+}
+
+// The frame that the word lies in: its first address, and the clock of its last change, if a step on hand changed a byte of it.
 #[derive(Clone, Copy)]
 pub struct Frame {
-    pub row: u64,
     pub address: u64,
-    pub clock: u64,
+    pub changed: Option<u64>,
 }
 
-pub fn no_frame() -> Frame {
-    Frame {
-        row: 0,
-        address: 0,
-        clock: 0,
-    }
-}
-
-pub fn frame_changed(address: u64, clock: u64) -> Frame {
-    Frame {
-        row: 1,
-        address,
-        clock,
-    }
-}
-
-// No step on hand changed a byte of it.
-pub fn frame_kept(address: u64) -> Frame {
-    Frame {
-        row: 2,
-        address,
-        clock: 0,
-    }
-}
-
-pub fn found(c: Culprit, frame: Frame) -> Message {
-    Message {
-        row: FOUND,
-        stands: 0,
-        a: c.address,
-        b: c.ago,
-        c: c.old,
-        d: c.new,
-        e: c.clock,
-        f: c.pc,
-        g: c.instruction,
-        h: c.address,
-        frame,
-    }
-}
-
-// The machine stands just before the step that changes `address`.
-pub fn before(c: Culprit, frame: Frame) -> Message {
-    Message {
-        row: BEFORE,
-        stands: 1,
-        a: c.ago,
-        b: c.address,
-        c: c.old,
-        d: c.new,
-        e: c.instruction,
-        f: 0,
-        g: 0,
-        h: 0,
-        frame,
-    }
-}
-
-// No step on hand changed `address`.
-pub fn none(address: u64, holds: u64, on_hand: u64, frame: Frame) -> Message {
-    Message {
-        row: NO_CHANGE,
-        stands: 0,
-        a: address,
-        b: holds,
-        c: on_hand,
-        d: 0,
-        e: 0,
-        f: 0,
-        g: 0,
-        h: 0,
-        frame,
+impl fmt::Display for Frame {
+    fn fmt<W: fmt::Write>(&self, f: &mut fmt::Formatter<W>) -> fmt::Result {
+        let address = Address(self.address);
+        match self.changed {
+            Some(clock) => write!(
+                f,
+                "The last change in frame {address} was at clock {}.\n",
+                Grouped(clock)
+            ),
+            None => write!(f, "No step on hand changed a byte of frame {address}.\n"),
+        }
     }
 }

@@ -1,7 +1,12 @@
-// Lines of a screen with values in them. A table of texts is one byte string with | between its rows, which are counted from 0.
+// What lines of a screen are made of: a page, which `write!` lays text into, and values as they are shown.
 #![tactic(auto)]
 
-mod row; // a row of a table of texts
-pub mod template; // a table of texts in which % and a letter stand for a value
-mod value; // a value as it is shown
-pub mod names; // registers, exceptions, printers, interrupt lines and words of the image
+mod page; // a lent buffer with a place in it
+mod number; // numbers as they are shown
+mod name; // registers, exceptions, printers and interrupt lines in words
+
+pub use crate::name::{
+    Character, Command, Exception, InterruptLines, PrinterStatus, Register, YesNo,
+};
+pub use crate::number::{Address, Byte, Decimal, Grouped, Half, Signed, Steps, Word};
+pub use crate::page::{Page, lay};

@@ -1,31 +1,29 @@
 // info clocks.
-use phrase::template::{eight, fill_row};
+use phrase::{Decimal, Grouped, Steps, Word};
+use std::fmt;
 
-fn words(image: &[u8]) -> [u64; 16] {
-    let timer = image::word(image, image::TIMER);
-    eight(
-        image::clock(image),
-        image::word(image, image::CLOCK_HIGH),
-        image::word(image, image::CLOCK_LOW),
-        timer,
-        timer % 0x1_0000_0000 + 1,
-        image::word(image, image::SCALE),
-        image::word(image, image::DELAY),
-        0,
-    )
-}
+// Of a state image.
+#[derive(Clone, Copy)]
+pub struct Clocks<'a>(pub &'a [u8]);
 
-pub fn show(out: &mut [u8], at: usize, image: &[u8]) -> usize {
-    let words = words(image);
-    fill_row(
-        out,
-        at,
-        b"clock          %g steps since the reset\n\
-        \x20              (words %w %w)\n\
-        timer          %w: interrupt line 2 asks in %s\n\
-        time scale     %d, a word that programs can read (set by new)\n\
-        printer delay  %s from a printer's command to its end (set by new)\n",
-        0,
-        words,
-    )
+impl fmt::Display for Clocks<'_> {
+    fn fmt<W: fmt::Write>(&self, f: &mut fmt::Formatter<W>) -> fmt::Result {
+        let image = self.0;
+        let timer = image::word(image, image::TIMER);
+        write!(
+            f,
+            "clock          {} steps since the reset\n\
+            \x20              (words {} {})\n\
+            timer          {}: interrupt line 2 asks in {}\n\
+            time scale     {}, a word that programs can read (set by new)\n\
+            printer delay  {} from a printer's command to its end (set by new)\n",
+            Grouped(image::clock(image)),
+            Word(image::word(image, image::CLOCK_HIGH)),
+            Word(image::word(image, image::CLOCK_LOW)),
+            Word(timer),
+            Steps(timer as u64 + 1),
+            Decimal(image::word(image, image::SCALE) as u64),
+            Steps(image::word(image, image::DELAY) as u64),
+        )
+    }
 }

@@ -1,4 +1,4 @@
-// What a person sees. Each function lays text into a lent buffer from a place on, and answers the place behind it. A screen has at most 80 columns.
+// What a person sees, as values that display themselves. A screen has at most 80 columns.
 #![tactic(auto)]
 
 pub mod tables; // info registers, info tlb, info printers
@@ -8,3 +8,4 @@ pub mod sizes; // info station
 pub mod paper; // what a printer printed
 pub mod bad; // a line that is no command
 pub mod memory_units; // x: a unit of memory
+mod field; // fields of words

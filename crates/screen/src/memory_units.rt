@@ -1,76 +1,75 @@
 // x: units of memory, some on a line behind the address of the first.
-use phrase::template::{fill_row, four};
+use phrase::{Byte, Character, Decimal, Exception, Half, Signed, Word};
+use std::fmt;
 
-// How a line begins: not before this unit; with the address; or so, behind the end of the line that was open.
-pub const GOES_ON: u64 = 0;
+// How a line begins.
+#[derive(Clone, Copy, PartialEq, Eq, Debug)]
+pub enum Begins {
+    // Not before this unit.
+    GoesOn,
+    // With the address.
+    Line,
+    // So, behind the end of the line that was open.
+    Anew,
+}
 
-pub const BEGINS: u64 = 1;
+// A unit as it is shown, or why there is none.
+#[derive(Clone, Copy, PartialEq, Eq, Debug)]
+pub enum Shown {
+    Byte(u8),
+    Half(u16),
+    Word(u32),
+    Signed(u32),
+    Unsigned(u32),
+    Character(u8),
+    Raises(u32),
+    Device,
+    TwoMatch,
+}
 
-pub const BEGINS_ANEW: u64 = 2;
-
-// How a unit is shown.
-pub const HEX_BYTE: u64 = 0;
-
-pub const HEX_HALF: u64 = 1;
-
-pub const HEX_WORD: u64 = 2;
-
-pub const SIGNED: u64 = 3;
-
-pub const UNSIGNED: u64 = 4;
-
-pub const CHARACTER: u64 = 5;
-
-pub const RAISES: u64 = 6;
-
-pub const DEVICE: u64 = 7;
-
-pub const TWO_MATCH: u64 = 8;
-
-// `begins` and `shows` are of the rows above; the line ends behind the unit if `ends` is 1.
 #[derive(Clone, Copy)]
 pub struct Unit {
-    pub begins: u64,
-    pub address: u64,
-    pub shows: u64,
-    pub value: u64,
-    pub ends: u64,
+    pub begins: Begins,
+    pub address: u32,
+    pub shown: Shown,
+    // The line ends behind the unit.
+    pub ends: bool,
 }
 
-pub fn show(out: &mut [u8], at: usize, unit: Unit) -> usize {
-    let value = four(unit.value, unit.value, 0, 0);
-    let at = fill_row(
-        out,
-        at,
-        b"|%w:|\n%w:",
-        unit.begins,
-        four(unit.address, 0, 0, 0),
-    );
-    let at = fill_row(
-        out,
-        at,
-        b" %b| %h| %w| %i| %d| %k|\
-        \x20no access: exception %d %e\n|\
-        \x20the device area. See info clocks, info printers.\n|\
-        \x20two entries of the translation table match. See info tlb.\n",
-        unit.shows,
-        value,
-    );
-    end(out, at, unit.ends)
+// Behind as many units as are shown at once, where there are more.
+pub const CUT: &str = "x shows at most 4,096 at once.\n";
+
+const TWO_MATCH: &str = " two entries of the translation table match. See info tlb.\n";
+
+impl fmt::Display for Shown {
+    fn fmt<W: fmt::Write>(&self, f: &mut fmt::Formatter<W>) -> fmt::Result {
+        match *self {
+            Shown::Byte(byte) => write!(f, " {}", Byte(byte)),
+            Shown::Half(half) => write!(f, " {}", Half(half)),
+            Shown::Word(word) => write!(f, " {}", Word(word)),
+            Shown::Signed(word) => write!(f, " {}", Signed(word)),
+            Shown::Unsigned(word) => write!(f, " {}", Decimal(word as u64)),
+            Shown::Character(byte) => write!(f, " {}", Character(byte)),
+            Shown::Raises(code) => write!(
+                f,
+                " no access: exception {} {}\n",
+                Decimal(code as u64),
+                Exception(code),
+            ),
+            Shown::Device => f.write_str(" the device area. See info clocks, info printers.\n"),
+            Shown::TwoMatch => f.write_str(TWO_MATCH),
+        }
+    }
 }
 
-// The end of a line that is open, if `open` is 1.
-pub fn end(out: &mut [u8], at: usize, open: u64) -> usize {
-    fill_row(out, at, b"|\n", open, four(0, 0, 0, 0))
-}
-
-// Behind as many units as are shown at once, if `cut` is 1.
-pub fn cut(out: &mut [u8], at: usize, cut: u64) -> usize {
-    fill_row(
-        out,
-        at,
-        b"|x shows at most 4,096 at once.\n",
-        cut,
-        four(0, 0, 0, 0),
-    )
+impl fmt::Display for Unit {
+    fn fmt<W: fmt::Write>(&self, f: &mut fmt::Formatter<W>) -> fmt::Result {
+        match self.begins {
+            Begins::GoesOn => {}
+            Begins::Line => write!(f, "{}:", Word(self.address))?,
+            Begins::Anew => write!(f, "\n{}:", Word(self.address))?,
+        }
+        let end = if self.ends { "\n" } else { "" };
+        write!(f, "{}{end}", self.shown)
+    }
 }

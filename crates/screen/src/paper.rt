@@ -1,43 +1,32 @@
 // What a printer printed: printable characters and line feeds as they are, all other bytes as \xNN.
-use phrase::names::character;
-use phrase::template::{fill_row, four};
-use text::put;
+use phrase::{Character, Decimal, Grouped};
+use std::fmt;
 
-fn printed(out: &mut [u8], at: usize, byte: u8) -> usize {
-    if byte == b'\n' {
-        return put(out, at, b"\n");
-    }
-    character(out, at, byte as u64)
+#[derive(Clone, Copy)]
+pub struct Paper<'a> {
+    // The printer's number.
+    pub printer: usize,
+    pub printed: &'a [u8],
 }
 
-fn all(out: &mut [u8], at: usize, text: &[u8]) -> usize {
-    let mut next = at;
-    for i in 0..text.len() {
-        next = printed(out, next, text[i]);
+impl fmt::Display for Paper<'_> {
+    fn fmt<W: fmt::Write>(&self, f: &mut fmt::Formatter<W>) -> fmt::Result {
+        write!(
+            f,
+            "Printer {}, bytes printed: {}\n",
+            Decimal(self.printer as u64),
+            Grouped(self.printed.len() as u64),
+        )?;
+        for &byte in self.printed {
+            match byte {
+                b'\n' => f.write_str("\n")?,
+                _ => write!(f, "{}", Character(byte))?,
+            }
+        }
+        // A line that the paper left open is ended.
+        match self.printed.last() {
+            None | Some(b'\n') => Ok(()),
+            Some(_) => f.write_str("\n"),
+        }
     }
-    next
-}
-
-// 1: the paper left a line open, which is ended.
-fn is_open(text: &[u8]) -> u64 {
-    if text.len() == 0 {
-        return 0;
-    }
-    if text[text.len() - 1] == b'\n' {
-        return 0;
-    }
-    1
-}
-
-// `text` is what printer n printed.
-pub fn show(out: &mut [u8], at: usize, n: u64, text: &[u8]) -> usize {
-    let at = fill_row(
-        out,
-        at,
-        b"Printer %d, bytes printed: %g\n",
-        0,
-        four(n, text.len() as u64, 0, 0),
-    );
-    let at = all(out, at, text);
-    fill_row(out, at, b"|\n", is_open(text), four(0, 0, 0, 0))
 }

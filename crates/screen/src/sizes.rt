@@ -1,6 +1,7 @@
 // info station: how large everything is that the station has.
 use journal::SLOT;
-use phrase::template::{eight, fill_row};
+use phrase::{Grouped, Steps};
+use std::fmt;
 
 // In bytes.
 #[derive(Clone, Copy)]
@@ -12,30 +13,30 @@ pub struct Lengths {
     pub journal: usize,
 }
 
-fn sizes(image: &[u8], lengths: Lengths) -> [u64; 16] {
-    eight(
-        lengths.execution as u64,
-        lengths.bootstrap as u64,
-        lengths.ram as u64,
-        lengths.ram as u64 / 4096,
-        lengths.paper as u64,
-        lengths.paper as u64 / 8,
-        (lengths.journal / SLOT) as u64,
-        image::word(image, image::ON_HAND),
-    )
+#[derive(Clone, Copy)]
+pub struct Sizes<'a> {
+    pub image: &'a [u8],
+    pub lengths: Lengths,
 }
 
-pub fn show(out: &mut [u8], at: usize, image: &[u8], lengths: Lengths) -> usize {
-    let sizes = sizes(image, lengths);
-    fill_row(
-        out,
-        at,
-        b"execution ROM  %g bytes from 0x00000000\n\
-        bootstrap ROM  %g bytes from 0x1fc00000, where a reset starts\n\
-        RAM            %g bytes from 0x20000000: %g frames of 4,096\n\
-        paper          %g bytes: %g for each of 8 printers\n\
-        journal        room for %s; on hand now, and to be taken back: %g\n",
-        0,
-        sizes,
-    )
+impl fmt::Display for Sizes<'_> {
+    fn fmt<W: fmt::Write>(&self, f: &mut fmt::Formatter<W>) -> fmt::Result {
+        let lengths = self.lengths;
+        write!(
+            f,
+            "execution ROM  {} bytes from 0x00000000\n\
+            bootstrap ROM  {} bytes from 0x1fc00000, where a reset starts\n\
+            RAM            {} bytes from 0x20000000: {} frames of 4,096\n\
+            paper          {} bytes: {} for each of 8 printers\n\
+            journal        room for {}; on hand now, and to be taken back: {}\n",
+            Grouped(lengths.execution as u64),
+            Grouped(lengths.bootstrap as u64),
+            Grouped(lengths.ram as u64),
+            Grouped(lengths.ram as u64 / 4096),
+            Grouped(lengths.paper as u64),
+            Grouped(lengths.paper as u64 / 8),
+            Steps((lengths.journal / SLOT) as u64),
+            Grouped(image::word(self.image, image::ON_HAND) as u64),
+        )
+    }
 }
