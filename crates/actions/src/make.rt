@@ -1,22 +1,30 @@
 // new: a station is made, in two turns. The sizes are judged first; then the files are there, and the machine is reset.
 use forms::kinds::Fresh;
 use journal::SLOT;
-use session::answer::{FILE_TROUBLE, MAKE, REFUSED, Then};
-use session::plan::{Plan, turns, works};
-use session::turn::{Turn, quietly, says, tells};
+use message::Message;
+use message::refused::Refused;
+use session::ending::{Then, Wants};
+use session::event::Event;
+use session::exit::Exit;
+use session::mode::Mode;
+use session::plan::Plan;
+use session::turn::{Turn, begins, quietly, refuses, says};
 use session::words::{
-    CHANGED, DELAY, INDEX_BYTES, INSTALLED, IS_THERE, JOURNAL_BYTES, MAKING, MODE, NAME_FROM,
-    NAME_TO, PAPER_BYTES, RAM_BYTES, SCALE, SECOND_FROM, SECOND_TO,
+    DELAY, INDEX_BYTES, INSTALLED, JOURNAL_BYTES, PAPER_BYTES, RAM_BYTES, SCALE, is_there,
+    set_changed, set_name, set_second_name, set_there,
 };
 use session::work::{Settings, Work};
 
-fn noted(session: &mut [u64; 32], fresh: Fresh) {
-    let execution = fresh.execution;
-    let bootstrap = fresh.bootstrap;
-    session[NAME_FROM] = execution.from as u64;
-    session[NAME_TO] = execution.to as u64;
-    session[SECOND_FROM] = bootstrap.from as u64;
-    session[SECOND_TO] = bootstrap.to as u64;
+pub fn begin(session: &[u64; 32], fresh: Fresh) -> Plan {
+    if is_there(session) {
+        return Plan::Turns(refuses(Refused::StationThere));
+    }
+    Plan::Works(Work::Judge(fresh))
+}
+
+pub fn accepted(session: &mut [u64; 32], fresh: Fresh) -> Turn {
+    set_name(session, fresh.execution);
+    set_second_name(session, fresh.bootstrap);
     session[RAM_BYTES] = fresh.ram % 4097 * 4096;
     session[PAPER_BYTES] = fresh.paper;
     session[JOURNAL_BYTES] = fresh.journal % 32769 * SLOT as u64;
@@ -24,35 +32,22 @@ fn noted(session: &mut [u64; 32], fresh: Fresh) {
     session[SCALE] = fresh.scale;
     session[DELAY] = fresh.delay;
     session[INSTALLED] = fresh.printers;
-    session[MODE] = MAKING;
+    begins(session, Mode::Making, Wants::Make)
 }
 
-pub fn begin(session: &[u64; 32], fresh: Fresh) -> Plan {
-    if session[IS_THERE] == 1 {
-        return turns(tells(message::STATION_THERE, Then::Refuse(REFUSED)));
+pub fn planned(session: &[u64; 32], event: Event) -> Plan {
+    if event != Event::Made {
+        return Plan::Turns(quietly(Then::Refuse(Exit::File)));
     }
-    works(Work::Judge(fresh))
-}
-
-pub fn accepted(session: &mut [u64; 32], fresh: Fresh) -> Turn {
-    noted(session, fresh);
-    quietly(Then::Want(MAKE))
-}
-
-pub fn planned(session: &[u64; 32], event: u64) -> Plan {
-    if event != session::event::MADE {
-        return turns(quietly(Then::Refuse(FILE_TROUBLE)));
-    }
-    let settings = Settings {
+    Plan::Works(Work::Make(Settings {
         scale: session[SCALE],
         delay: session[DELAY],
         installed: session[INSTALLED],
-    };
-    works(Work::Make(settings))
+    }))
 }
 
 pub fn made(session: &mut [u64; 32]) -> Turn {
-    session[IS_THERE] = 1;
-    session[CHANGED] = 1;
-    says(message::with(message::MADE, 1, 0, 0, 0), Then::Ask)
+    set_there(session);
+    set_changed(session, true);
+    says(Message::Made, Then::Ask)
 }

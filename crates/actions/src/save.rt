@@ -1,47 +1,48 @@
 // save, quit, restore: what is kept, and the end of a session.
-use session::answer::{FILE_TROUBLE, RESTORE, SAVE, Then, at_prompt};
-use session::event::{RESTORED, SAVED};
-use session::turn::{Turn, quietly, says, tells};
-use session::words::{CHANGED, FAILED, MODE, RESTORING, SAVING, STATUS};
+use message::Message;
+use session::ending::{Then, Wants};
+use session::event::Event;
+use session::exit::Exit;
+use session::mode::Mode;
+use session::turn::{Turn, begins, quietly, says};
+use session::words::{has_changed, is_at_prompt, set_changed, set_save_failed, status};
 
 pub fn begin(session: &mut [u64; 32]) -> Turn {
-    if session[CHANGED] == 0 {
-        return tells(message::UNCHANGED, Then::Ask);
+    if !has_changed(session) {
+        return says(Message::Unchanged, Then::Ask);
     }
-    session[MODE] = SAVING;
-    quietly(Then::Want(SAVE))
+    begins(session, Mode::Saving, Wants::Save)
 }
 
-pub fn saved(session: &mut [u64; 32], event: u64) -> Turn {
-    if event != SAVED {
-        return quietly(Then::Refuse(FILE_TROUBLE));
+pub fn saved(session: &mut [u64; 32], event: Event) -> Turn {
+    if event != Event::Saved {
+        return quietly(Then::Refuse(Exit::File));
     }
-    session[CHANGED] = 0;
-    tells(message::SAVED, Then::Ask)
+    set_changed(session, false);
+    says(Message::Saved, Then::Ask)
 }
 
 // After the save before the end. A person stays if it failed, so that nothing is lost.
-pub fn ending(session: &mut [u64; 32], event: u64) -> Turn {
-    if event == SAVED {
-        session[CHANGED] = 0;
-        return quietly(Then::End(session[STATUS]));
+pub fn ending(session: &mut [u64; 32], event: Event) -> Turn {
+    if event == Event::Saved {
+        set_changed(session, false);
+        return quietly(Then::End(status(session)));
     }
-    if !at_prompt(session) {
-        return quietly(Then::End(FILE_TROUBLE));
+    if !is_at_prompt(session) {
+        return quietly(Then::End(Exit::File));
     }
-    session[FAILED] = 1;
-    tells(message::NOT_SAVED, Then::Ask)
+    set_save_failed(session, true);
+    says(Message::NotSaved, Then::Ask)
 }
 
 pub fn restore(session: &mut [u64; 32]) -> Turn {
-    session[MODE] = RESTORING;
-    quietly(Then::Want(RESTORE))
+    begins(session, Mode::Restoring, Wants::Restore)
 }
 
-pub fn restoring(session: &mut [u64; 32], event: u64) -> Turn {
-    if event != RESTORED {
-        return quietly(Then::Refuse(FILE_TROUBLE));
+pub fn restoring(session: &mut [u64; 32], event: Event) -> Turn {
+    if event != Event::Restored {
+        return quietly(Then::Refuse(Exit::File));
     }
-    session[CHANGED] = 0;
-    says(message::with(message::RESTORED, 1, 0, 0, 0), Then::Ask)
+    set_changed(session, false);
+    says(Message::Restored, Then::Ask)
 }

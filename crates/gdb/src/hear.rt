@@ -1,6 +1,7 @@
 // What a turn has to do, by what has happened, by what the session is in the middle of and by what stands at the start of the input.
-use crate::{END_OF_INPUT, INTERRUPT, SAVED, Task};
+use crate::{Event, Task};
 use remote::Heard;
+use stub::kinds::Mode;
 use stub::words;
 
 // So much input without a whole packet is no packet.
@@ -32,9 +33,7 @@ fn between(session: &mut [u64; 256], input: usize, heard: Heard) -> Task {
             session[words::USED] = used as u64;
             Task::Damaged
         }
-        Heard::Ack => Task::GoOn,
-        Heard::Noise => Task::GoOn,
-        Heard::Packet(_, _) => Task::GoOn,
+        Heard::Ack | Heard::Noise | Heard::Packet(_, _) => Task::GoOn,
     }
 }
 
@@ -51,48 +50,26 @@ fn listens(session: &mut [u64; 256], input: &[u8], packet: &mut [u8]) -> Task {
 }
 
 // Whether gdb wants the run to stop. Only 0x03 is to come while the machine runs; any other byte but an acknowledgement stops it too, and is heard then.
-fn is_interrupted(session: &mut [u64; 256], event: u64, input: &[u8]) -> bool {
-    if event == INTERRUPT {
+fn is_interrupted(session: &mut [u64; 256], event: Event, input: &[u8]) -> bool {
+    if event == Event::Interrupt {
         return true;
     }
-    if input.len() == 0 {
-        return false;
-    }
-    if (input[0] == b'+') | (input[0] == b'-') {
-        session[words::USED] = 1;
-        return false;
-    }
-    if input[0] == 3 {
+    if matches!(input.first(), Some(b'+' | b'-' | 3)) {
         session[words::USED] = 1;
     }
-    true
+    !matches!(input.first(), None | Some(b'+' | b'-'))
 }
 
-fn runs(session: &mut [u64; 256], event: u64, input: &[u8]) -> Task {
+fn runs(session: &mut [u64; 256], event: Event, input: &[u8]) -> Task {
     if is_interrupted(session, event, input) {
         return Task::Stop;
     }
     Task::Piece
 }
 
-fn is_running(session: &[u64; 256]) -> bool {
-    let mode = session[words::MODE];
-    (mode == words::CONTINUE) | (mode == words::STEP) | (mode == words::RANGE)
-}
-
-fn is_saving(session: &[u64; 256]) -> bool {
-    let mode = session[words::MODE];
-    (mode == words::DETACHING) | (mode == words::ENDING)
-}
-
-fn by_event(session: &mut [u64; 256], event: u64, input: &[u8], packet: &mut [u8]) -> Task {
-    if event == END_OF_INPUT {
-        return Task::Finish;
-    }
-    if is_running(session) {
-        return runs(session, event, input);
-    }
-    if event == INTERRUPT {
+// The machine stands. An interrupt is then for the next run.
+fn stands(session: &mut [u64; 256], event: Event, input: &[u8], packet: &mut [u8]) -> Task {
+    if event == Event::Interrupt {
         return interrupted(session);
     }
     listens(session, input, packet)
@@ -103,8 +80,11 @@ pub fn hear(session: &mut [u64; 256], event: u64, input: &[u8], packet: &mut [u8
     session[words::USED] = 0;
     session[words::SAID] = 0;
     session[words::LINE] = 0;
-    if is_saving(session) {
-        return Task::Saved(event == SAVED);
+    let event = Event::from(event);
+    match Mode::from(session[words::MODE]) {
+        Mode::Detaching | Mode::Ending => Task::Saved(event == Event::Saved),
+        _ if event == Event::EndOfInput => Task::Finish,
+        Mode::Continue | Mode::Step | Mode::Range => runs(session, event, input),
+        Mode::Idle => stands(session, event, input, packet),
     }
-    by_event(session, event, input, packet)
 }

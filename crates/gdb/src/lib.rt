@@ -27,9 +27,23 @@ pub enum Task {
     Finish,
 }
 
-// Events, by the numbers of include/station.h.
-const INTERRUPT: u64 = 3;
+// What has happened.
+#[derive(Clone, Copy, PartialEq, Eq)]
+enum Event {
+    Interrupt,
+    EndOfInput,
+    Saved,
+    Other,
+}
 
-const END_OF_INPUT: u64 = 4;
-
-const SAVED: u64 = 8;
+impl From<u64> for Event {
+    // By the numbers of include/station.h.
+    fn from(number: u64) -> Event {
+        match number {
+            3 => Event::Interrupt,
+            4 => Event::EndOfInput,
+            8 => Event::Saved,
+            _ => Event::Other,
+        }
+    }
+}

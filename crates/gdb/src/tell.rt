@@ -1,43 +1,53 @@
 // What gdb is told of what a turn did, and what is wanted next.
 use crate::Task;
-use phrase::template::{fill_row, four};
 use remote::say;
 use replies::{plain, stops};
+use stub::kinds::{Line, Mode};
 use stub::{Next, words};
 use text::put;
 
 // What is wanted next, by the numbers of include/station.h.
-const INPUT: u64 = 0;
-
-const GO_ON: u64 = 1;
-
-const SAVE: u64 = 2;
-
-const END: u64 = 3;
+#[derive(Clone, Copy)]
+enum Wants {
+    Input,
+    GoOn,
+    Save,
+    End,
+}
 
 // Exit statuses.
-const DONE: u64 = 0;
-
-const FILE_TROUBLE: u64 = 3;
+#[derive(Clone, Copy)]
+enum Status {
+    Done = 0,
+    FileTrouble = 3,
+}
 
 // What a turn answers: what it wants, the exit status, and how many bytes of `out` are laid.
-fn packed(wants: u64, status: u64, bytes: usize) -> u64 {
-    wants % 256 + status % 256 * 256 + bytes as u64 % 0x1_0000_0000 * 0x1_0000_0000
+fn packed(wants: Wants, status: Status, bytes: usize) -> u64 {
+    wants as u64 + status as u64 * 256 + bytes as u64 % 0x1_0000_0000 * 0x1_0000_0000
+}
+
+fn said(line: Line) -> &'static [u8] {
+    match line {
+        Line::Emptied => {
+            b"lavushmir-gdb: the journal is empty now: what gdb writes is no step to be taken back\n"
+        }
+        Line::TwoMatches => {
+            b"lavushmir-gdb: the next step meets two matching entries: see monitor info tlb\n"
+        }
+        Line::Refused => {
+            b"lavushmir-gdb: the machine can not go on: its state or journal is damaged\n"
+        }
+    }
 }
 
 // The line for standard error behind what goes to gdb.
 fn line(session: &mut [u64; 256], out: &mut [u8], at: usize) -> usize {
-    let end = fill_row(
-        out,
-        at,
-        b"|\
-        lavushmir-gdb: the journal is empty now: what gdb writes is no step to be taken back\n|\
-        lavushmir-gdb: the next step meets two matching entries: see monitor info tlb\n|\
-        lavushmir-gdb: the machine can not go on: its state or journal is damaged\n",
-        session[words::LINE],
-        four(0, 0, 0, 0),
-    );
-    session[words::SAID] = std::num::wrapping_sub_u64(end as u64, at as u64);
+    let end = match Line::try_from(session[words::LINE]) {
+        Ok(line) => put(out, at, said(line)),
+        Err(_) => at,
+    };
+    session[words::SAID] = (end as u64).wrapping_sub(at as u64);
     end
 }
 
@@ -49,20 +59,12 @@ fn acknowledged(out: &mut [u8], is_wanted: bool) -> usize {
     0
 }
 
-// A reply as a packet. Answers how many bytes it has.
+// A reply as a packet. Answers how many bytes it has: none where it does not fit.
 fn put_packet(out: &mut [u8], at: usize, reply: &[u8]) -> usize {
-    if out.len() < at {
+    let Some(out) = out.get_mut(at..) else {
         return 0;
-    }
-    say(reply, &mut out[at..])
-}
-
-// The first `count` bytes; all of them where there are not so many.
-fn first(bytes: &[u8], count: usize) -> &[u8] {
-    if bytes.len() < count {
-        return bytes;
-    }
-    &bytes[0..count]
+    };
+    say(reply, out).unwrap_or(0)
 }
 
 // The machine stands, and gdb gets the reply, which is kept in case it asks for it again.
@@ -72,32 +74,32 @@ fn stands(
     at: usize,
     reply: &[u8],
     count: usize,
-    wants: u64,
+    wants: Wants,
 ) -> u64 {
-    session[words::MODE] = words::IDLE;
+    session[words::MODE] = Mode::Idle.into();
     session[words::REPLY] = count as u64;
-    let said = put_packet(out, at, first(reply, count));
-    let end = line(session, out, std::num::wrapping_add_usize(at, said));
-    packed(wants, DONE, end)
+    let said = put_packet(out, at, &reply[..count.min(reply.len())]);
+    let end = line(session, out, at.wrapping_add(said));
+    packed(wants, Status::Done, end)
 }
 
-fn saves(session: &mut [u64; 256], mode: u64, at: usize) -> u64 {
-    session[words::MODE] = mode;
-    packed(SAVE, DONE, at)
+fn saves(session: &mut [u64; 256], mode: Mode, at: usize) -> u64 {
+    session[words::MODE] = mode.into();
+    packed(Wants::Save, Status::Done, at)
 }
 
 fn refuses(session: &mut [u64; 256], out: &mut [u8], reply: &mut [u8]) -> u64 {
     let count = plain::refused(reply);
-    stands(session, out, 0, reply, count, GO_ON)
+    stands(session, out, 0, reply, count, Wants::GoOn)
 }
 
 // The station is saved before gdb is told that it is detached.
 fn detaches(session: &mut [u64; 256], out: &mut [u8], at: usize, reply: &mut [u8]) -> u64 {
     if session[words::CHANGED] == 1 {
-        return saves(session, words::DETACHING, at);
+        return saves(session, Mode::Detaching, at);
     }
     let count = plain::done(reply);
-    stands(session, out, at, reply, count, GO_ON)
+    stands(session, out, at, reply, count, Wants::GoOn)
 }
 
 // The reply to what came of a packet or a piece. Answers how many bytes it has.
@@ -106,16 +108,15 @@ fn laid(session: &mut [u64; 256], reply: &mut [u8], image: &[u8], next: Next) ->
         Next::Stopped(signal) => stops::stopped(session, reply, image, signal),
         Next::Watched(address) => stops::watched(session, reply, image, address),
         Next::Begins => stops::begins(session, reply, image),
-        Next::Reply(count) => count,
-        Next::Kill(count) => count,
+        Next::Reply(count) | Next::Kill(count) => count,
         _ => 0,
     }
 }
 
-fn wanted(next: Next) -> u64 {
+fn wanted(next: Next) -> Wants {
     match next {
-        Next::Kill(_) => END,
-        _ => GO_ON,
+        Next::Kill(_) => Wants::End,
+        _ => Wants::GoOn,
     }
 }
 
@@ -129,7 +130,7 @@ fn told(
     next: Next,
 ) -> u64 {
     match next {
-        Next::Run => packed(GO_ON, DONE, at),
+        Next::Run => packed(Wants::GoOn, Status::Done, at),
         Next::Detach => detaches(session, out, at, reply),
         _ => {
             let count = laid(session, reply, image, next);
@@ -141,21 +142,25 @@ fn told(
 // The session ends, and what has changed is saved before.
 fn finishes(session: &mut [u64; 256]) -> u64 {
     if session[words::CHANGED] == 1 {
-        return saves(session, words::ENDING, 0);
+        return saves(session, Mode::Ending, 0);
     }
-    packed(END, DONE, 0)
+    packed(Wants::End, Status::Done, 0)
 }
 
 // Behind a save: of a detach, or at the end.
 fn saved(session: &mut [u64; 256], is_saved: bool, out: &mut [u8], reply: &mut [u8]) -> u64 {
-    if session[words::MODE] == words::ENDING {
-        let status = if is_saved { DONE } else { FILE_TROUBLE };
-        return packed(END, status, 0);
+    if Mode::from(session[words::MODE]) == Mode::Ending {
+        let status = if is_saved {
+            Status::Done
+        } else {
+            Status::FileTrouble
+        };
+        return packed(Wants::End, status, 0);
     }
     if is_saved {
         session[words::CHANGED] = 0;
         let count = plain::done(reply);
-        return stands(session, out, 0, reply, count, GO_ON);
+        return stands(session, out, 0, reply, count, Wants::GoOn);
     }
     refuses(session, out, reply)
 }
@@ -163,7 +168,7 @@ fn saved(session: &mut [u64; 256], is_saved: bool, out: &mut [u8], reply: &mut [
 // A packet that is damaged or too long: gdb is to send it again, or, where nothing is acknowledged, is told that it went wrong.
 fn damaged(session: &mut [u64; 256], out: &mut [u8], reply: &mut [u8]) -> u64 {
     if session[words::QUIET] != 1 {
-        return packed(GO_ON, DONE, put(out, 0, b"-"));
+        return packed(Wants::GoOn, Status::Done, put(out, 0, b"-"));
     }
     refuses(session, out, reply)
 }
@@ -171,21 +176,21 @@ fn damaged(session: &mut [u64; 256], out: &mut [u8], reply: &mut [u8]) -> u64 {
 // The last reply once more. Where nothing is acknowledged gdb says `-` after each 2 seconds of waiting, and means nothing by it.
 fn again(session: &mut [u64; 256], out: &mut [u8], reply: &[u8]) -> u64 {
     if session[words::QUIET] == 1 {
-        return packed(GO_ON, DONE, 0);
+        return packed(Wants::GoOn, Status::Done, 0);
     }
     let count = (session[words::REPLY] % 0x1_0000_0000) as usize;
-    stands(session, out, 0, reply, count, GO_ON)
+    stands(session, out, 0, reply, count, Wants::GoOn)
 }
 
 // Of what the machine had no part in.
 fn shortly(session: &mut [u64; 256], out: &mut [u8], reply: &mut [u8], task: Task) -> u64 {
     match task {
-        Task::Wait => packed(INPUT, DONE, 0),
+        Task::Wait => packed(Wants::Input, Status::Done, 0),
         Task::Again => again(session, out, reply),
         Task::Damaged => damaged(session, out, reply),
         Task::Saved(is_saved) => saved(session, is_saved, out, reply),
         Task::Finish => finishes(session),
-        _ => packed(GO_ON, DONE, 0),
+        _ => packed(Wants::GoOn, Status::Done, 0),
     }
 }
 
@@ -203,8 +208,7 @@ pub fn tell(
             let at = acknowledged(out, is_wanted);
             told(session, out, at, reply, image, next)
         }
-        Task::Piece => told(session, out, 0, reply, image, next),
-        Task::Stop => told(session, out, 0, reply, image, next),
+        Task::Piece | Task::Stop => told(session, out, 0, reply, image, next),
         _ => shortly(session, out, reply, task),
     }
 }

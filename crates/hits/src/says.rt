@@ -1,56 +1,55 @@
 // What the record of a step says (docs/RECORD.md).
+ghost use Rattle.std.specs.Prelude.{◌+◌, ◌*◌, ◌≤◌};
+
 use journal::SLOT;
 use memory::load_word;
 use record::{KIND, OLD, PC, PLACE, RAM};
 
-// Word k of the record in a slot; 0 where there is no such slot.
-fn word(journal: &[u8], slot: usize, k: usize) -> u32 {
-    if journal.len() / SLOT <= slot {
-        return 0;
+// A store of a word: its place in RAM, and what it was before.
+#[derive(Clone, Copy)]
+pub struct Store {
+    pub place: u32,
+    pub old: u32,
+}
+
+// The record of the k-th newest step, where `next` is the next slot. There is none for numbers that no image has that was accepted.
+pub fn record(journal: &[u8], next: usize, k: usize) -> Option<&[u8; SLOT]> {
+    let (slots, _) = journal.as_chunks::<SLOT>();
+    if slots.len() <= next {
+        return None;
     }
-    if SLOT / 4 <= k {
-        return 0;
+    if slots.len() < k {
+        return None;
     }
-    load_word(journal, slot * SLOT + 4 * k)
+    slots.get(ring::slot_back(slots.len(), next, k))
 }
 
-// The slot of the k-th newest step, where `next` is the next slot; one that is not there for numbers that no image has that was accepted.
-pub fn slot_of(journal: &[u8], next: usize, k: usize) -> usize {
-    let slots = journal.len() / SLOT;
-    if slots <= next {
-        return slots;
+fn word(record: &[u8; SLOT], k: usize) -> u32
+    requires { 4 * k + 4 ≤ 512 }
+{
+    load_word(record, 4 * k)
+}
+
+pub fn pc(record: &[u8; SLOT]) -> u32 {
+    word(record, PC)
+}
+
+// What the step stored, where it wrote a word of RAM.
+pub fn stored(record: &[u8; SLOT]) -> Option<Store> {
+    if word(record, KIND) != RAM {
+        return None;
     }
-    if slots < k {
-        return slots;
-    }
-    ring::slot_back(slots, next, k)
-}
-
-pub fn pc(journal: &[u8], slot: usize) -> u32 {
-    word(journal, slot, PC)
-}
-
-// Whether the step wrote a word of RAM.
-pub fn is_store(journal: &[u8], slot: usize) -> bool {
-    word(journal, slot, KIND) == RAM
-}
-
-// Of such a step: the place of the word, and what it was before.
-pub fn place(journal: &[u8], slot: usize) -> u32 {
-    word(journal, slot, PLACE)
-}
-
-pub fn old(journal: &[u8], slot: usize) -> u32 {
-    word(journal, slot, OLD)
+    Some(Store {
+        place: word(record, PLACE),
+        old: word(record, OLD),
+    })
 }
 
 // The word of RAM at a place; 0 where RAM has none.
+// Stays: 0 is a value that is compared like any other, no sign of none: an Option would be unwrapped to 0 at each call.
 pub fn present(ram: &[u8], place: u32) -> u32 {
     let at = place as usize;
-    if ram.len() < 4 {
-        return 0;
-    }
-    if ram.len() - 4 < at {
+    if ram.len() < at + 4 {
         return 0;
     }
     load_word(ram, at)

@@ -1,58 +1,44 @@
 // Whether the change of a word of RAM is one of a watched byte.
-use points::watches::{Watch, at};
-use stub::words::{MOST_WATCHES, WATCHED_FROM, WATCHED_TO};
+use crate::says::{self, Store};
+use journal::SLOT;
+use points::watches::{Watch, rows};
+use stub::words::{WATCHED_FROM, WATCHED_TO};
 
-// Whether byte b of the word at a place is watched and differs.
-fn differs(watch: Watch, place: u32, b: u64, old: u32, new: u32) -> bool {
-    let byte = place as u64 + b % 4 + 1;
-    if byte < watch.place {
-        return false;
+// The virtual address of the byte at a place, where the watch holds it.
+fn address(watch: Watch, place: u64) -> Option<u32> {
+    let behind = place.checked_sub(watch.place?)?;
+    if watch.length <= behind {
+        return None;
     }
-    if watch.length <= byte - watch.place {
-        return false;
-    }
-    let shift = b % 4 * 8;
-    (old as u64 >> shift) % 256 != (new as u64 >> shift) % 256
+    Some((watch.address.wrapping_add(behind) % 0x1_0000_0000) as u32)
 }
 
-// The virtual address of byte b of the word, plus 1.
-fn address(watch: Watch, place: u32, b: u64) -> u64 {
-    let behind = std::num::wrapping_sub_u64(place as u64 + b % 4 + 1, watch.place);
-    std::num::wrapping_add_u64(watch.address, behind) % 0x1_0000_0000 + 1
+// The virtual address of the first byte of the word that the watch holds and that differs.
+fn by_watch(watch: Watch, store: Store, new: u32) -> Option<u32> {
+    if !watch.on {
+        return None;
+    }
+    let old = store.old.to_le_bytes();
+    let new = new.to_le_bytes();
+    (store.place as u64..)
+        .zip(old.iter().zip(new.iter()))
+        .filter(|(_, (old, new))| old != new)
+        .find_map(|(place, _)| address(watch, place))
 }
 
-// The virtual address, plus 1, of the first byte of the word that the watch holds and that differs; 0 where none does.
-fn first_byte(watch: Watch, place: u32, old: u32, new: u32) -> u64 {
-    for b in 0..4 {
-        if differs(watch, place, b, old, new) {
-            return address(watch, place, b);
-        }
-    }
-    0
-}
-
-fn by_watch(watch: Watch, place: u32, old: u32, new: u32) -> u64 {
-    if watch.on == 0 {
-        return 0;
-    }
-    if watch.place == 0 {
-        return 0;
-    }
-    first_byte(watch, place, old, new)
-}
-
-// The address, plus 1, of a watched byte that differs in the word at a place; 0 where there is none.
-pub fn change(session: &[u64; 256], place: u32, old: u32, new: u32) -> u64 {
-    for i in 0..MOST_WATCHES {
-        let address = by_watch(at(session, i), place, old, new);
-        if address != 0 {
-            return address;
-        }
-    }
-    0
+// The address of a watched byte that differs in the word that was stored, which is `new` now.
+pub fn change(session: &[u64; 256], store: Store, new: u32) -> Option<u32> {
+    rows(session)
+        .iter()
+        .find_map(|row| by_watch(Watch::from(*row), store, new))
 }
 
 // Whether a word at a place can have a watched byte: what is quickly told of nearly every store.
-pub fn may_hold(session: &[u64; 256], place: u32) -> bool {
+fn may_hold(session: &[u64; 256], place: u32) -> bool {
     (session[WATCHED_FROM] < place as u64 + 4) & ((place as u64) < session[WATCHED_TO])
+}
+
+// What the step of a record stored, where the word can have a watched byte.
+pub fn stored(session: &[u64; 256], record: &[u8; SLOT]) -> Option<Store> {
+    says::stored(record).filter(|store| may_hold(session, store.place))
 }

@@ -1,9 +1,8 @@
 // Where an address lands, or which exception it is, by the machine of an image.
 use board::places::Sizes;
 use cp0::privilege::mode_of;
-use reach::Reached;
 use reach::access::Access;
-use reach::translate::Translated;
+use reach::{Fault, Reached};
 use state::IMAGE;
 use state::decode::decode;
 
@@ -12,10 +11,10 @@ const ADEL: u32 = 4;
 // An address that the machine itself would use: through privilege and table.
 pub fn through_table(image: &[u8], access: Access, sizes: Sizes, address: u32) -> Reached {
     if image.len() != IMAGE {
-        return Reached::Exception {
+        return Err(Fault {
             miss: false,
             code: ADEL,
-        };
+        });
     }
     let machine = decode(image);
     let cpu = machine.cpu;
@@ -41,5 +40,5 @@ pub fn meets_two(image: &[u8], access: Access, address: u32) -> bool {
 
 // An address on the bus.
 pub fn on_bus(access: Access, sizes: Sizes, address: u32) -> Reached {
-    reach::landed(access, sizes, Translated::To(address))
+    reach::landed(access, sizes, Ok(address))
 }

@@ -2,139 +2,90 @@
 use crate::address::{meets_two, on_bus, through_table};
 use board::places::{Place, Sizes};
 use forms::kinds::Unit;
+use image::lent::Lent;
 use reach::Reached;
 use reach::access::{Access, Kind, Width};
 
-// The value there, or the exception, or a word of the device area, which info clocks and info printers show; or two entries of the table match.
+// Why nothing can be shown there.
 #[derive(Clone, Copy)]
-pub enum Read {
-    Value(u64),
-    Raises(u64),
+pub enum Unread {
+    Raises { code: u32 },
+    // A word of the device area, which info clocks and info printers show.
     Device,
+    // Two entries of the table match.
     TwoMatch,
 }
 
-fn byte_at(bytes: &[u8], at: usize) -> u64 {
-    if bytes.len() <= at {
-        return 0;
-    }
-    memory::load_byte(bytes, at) as u64
-}
+pub type Read = Result<u32, Unread>;
 
-fn half_at(bytes: &[u8], at: usize) -> u64 {
-    if bytes.len() < 2 {
-        return 0;
-    }
-    if bytes.len() - 2 < at {
-        return 0;
-    }
-    memory::load_half(bytes, at) as u64
-}
-
-pub fn word_at(bytes: &[u8], at: usize) -> u64 {
-    if bytes.len() < 4 {
-        return 0;
-    }
-    if bytes.len() - 4 < at {
-        return 0;
-    }
-    memory::load_word(bytes, at) as u64
-}
-
-fn unit_at(bytes: &[u8], at: usize, unit: Unit) -> u64 {
+// 0 where the unit is not whole.
+// Stays: (d) with an Option each caller would say `unit_at(..).unwrap_or(0)`.
+pub fn unit_at(bytes: &[u8], at: usize, unit: Unit) -> u32 {
+    let room = bytes.len().saturating_sub(at);
     match unit {
-        Unit::Byte => byte_at(bytes, at),
-        Unit::Half => half_at(bytes, at),
-        Unit::Word => word_at(bytes, at),
-    }
-}
-
-fn width(unit: Unit) -> Width {
-    match unit {
-        Unit::Byte => Width::One,
-        Unit::Half => Width::Two,
-        Unit::Word => Width::Four,
-    }
-}
-
-fn sizes(execution: &[u8], bootstrap: &[u8], ram: &[u8]) -> Sizes {
-    Sizes {
-        ram: (ram.len() % 0x1_0000_0000) as u32,
-        execution: (execution.len() % 0x1_0000_0000) as u32,
-        bootstrap: (bootstrap.len() % 0x1_0000_0000) as u32,
-    }
-}
-
-fn at_place(place: Place, unit: Unit, execution: &[u8], bootstrap: &[u8], ram: &[u8]) -> Read {
-    match place {
-        Place::Ram(offset) => Read::Value(unit_at(ram, offset as usize, unit)),
-        Place::Execution(offset) => Read::Value(unit_at(execution, offset as usize, unit)),
-        Place::Bootstrap(offset) => Read::Value(unit_at(bootstrap, offset as usize, unit)),
-        Place::Device(_) => Read::Device,
-    }
-}
-
-fn by_reached(
-    reached: Reached,
-    unit: Unit,
-    execution: &[u8],
-    bootstrap: &[u8],
-    ram: &[u8],
-) -> Read {
-    match reached {
-        Reached::Lands(place) => at_place(place, unit, execution, bootstrap, ram),
-        Reached::Exception { miss: _, code } => Read::Raises(code as u64),
+        Unit::Byte if 1 <= room => memory::load_byte(bytes, at) as u32,
+        Unit::Half if 2 <= room => memory::load_half(bytes, at) as u32,
+        Unit::Word if 4 <= room => memory::load_word(bytes, at),
+        _ => 0,
     }
 }
 
 fn load(unit: Unit) -> Access {
-    let width = width(unit);
     Access {
         kind: Kind::Load,
-        width,
+        width: match unit {
+            Unit::Byte => Width::One,
+            Unit::Half => Width::Two,
+            Unit::Word => Width::Four,
+        },
     }
 }
 
-pub fn virtual_unit(
-    image: &[u8],
-    execution: &[u8],
-    bootstrap: &[u8],
-    ram: &[u8],
-    unit: Unit,
-    address: u32,
-) -> Read {
+fn sizes(lent: &Lent) -> Sizes {
+    Sizes {
+        ram: (lent.ram.len() % 0x1_0000_0000) as u32,
+        execution: (lent.execution.len() % 0x1_0000_0000) as u32,
+        bootstrap: (lent.bootstrap.len() % 0x1_0000_0000) as u32,
+    }
+}
+
+fn place(reached: Reached) -> Result<Place, Unread> {
+    match reached {
+        Ok(place) => Ok(place),
+        Err(fault) => Err(Unread::Raises { code: fault.code }),
+    }
+}
+
+fn at_place(lent: &Lent, place: Place, unit: Unit) -> Read {
+    match place {
+        Place::Ram(offset) => Ok(unit_at(lent.ram, offset as usize, unit)),
+        Place::Execution(offset) => Ok(unit_at(lent.execution, offset as usize, unit)),
+        Place::Bootstrap(offset) => Ok(unit_at(lent.bootstrap, offset as usize, unit)),
+        Place::Device(_) => Err(Unread::Device),
+    }
+}
+
+pub fn virtual_unit(lent: &Lent, unit: Unit, address: u32) -> Read {
     let load = load(unit);
-    if meets_two(image, load, address) {
-        return Read::TwoMatch;
+    if meets_two(lent.image, load, address) {
+        return Err(Unread::TwoMatch);
     }
-    let sizes = sizes(execution, bootstrap, ram);
-    let reached = through_table(image, load, sizes, address);
-    by_reached(reached, unit, execution, bootstrap, ram)
+    let place = place(through_table(lent.image, load, sizes(lent), address))?;
+    at_place(lent, place, unit)
 }
 
-pub fn physical_unit(
-    execution: &[u8],
-    bootstrap: &[u8],
-    ram: &[u8],
-    unit: Unit,
-    address: u32,
-) -> Read {
-    let sizes = sizes(execution, bootstrap, ram);
-    let reached = on_bus(load(unit), sizes, address);
-    by_reached(reached, unit, execution, bootstrap, ram)
+pub fn physical_unit(lent: &Lent, unit: Unit, address: u32) -> Read {
+    let place = place(on_bus(load(unit), sizes(lent), address))?;
+    at_place(lent, place, unit)
 }
 
-// The word at PC, which the next step fetches; 0 where it can't.
-pub fn instruction(image: &[u8], execution: &[u8], bootstrap: &[u8], ram: &[u8]) -> u64 {
+// The word at PC, which the next step fetches.
+pub fn instruction(lent: &Lent) -> Read {
     let access = Access {
         kind: Kind::Fetch,
         width: Width::Four,
     };
-    let pc = (image::word(image, image::PC) % 0x1_0000_0000) as u32;
-    let reached = through_table(image, access, sizes(execution, bootstrap, ram), pc);
-    let read = by_reached(reached, Unit::Word, execution, bootstrap, ram);
-    match read {
-        Read::Value(word) => word,
-        _ => 0,
-    }
+    let pc = image::word(lent.image, image::PC);
+    let place = place(through_table(lent.image, access, sizes(lent), pc))?;
+    at_place(lent, place, Unit::Word)
 }

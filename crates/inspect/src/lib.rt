@@ -2,11 +2,12 @@
 #![tactic(auto)]
 
 use base16::{gather, number};
+use image::lent::Lent;
+use kept::keep_image;
 use peek::look;
 use registers::numbers::{COUNT, is_read_only};
 use replies::plain::{done, refused, said};
-use stub::packet::{byte, two};
-use text::put;
+use stub::packet::{Both, two};
 
 // The most bytes that one reply has.
 const MOST: u64 = 8192;
@@ -20,45 +21,30 @@ pub fn show_register(reply: &mut [u8], packet: &[u8], image: &[u8]) -> usize {
     registers::show::one(reply, 0, image, n as usize)
 }
 
-// What came of a write of registers into the image.
-#[derive(Clone, Copy)]
-enum Outcome {
-    Refused,
-    Nothing,
-    Changed,
-}
-
-fn changed(is_changed: bool) -> Outcome {
-    if is_changed {
-        return Outcome::Changed;
-    }
-    Outcome::Nothing
-}
-
-// G and the digits of all registers.
-fn wrote_all(packet: &[u8], image: &mut [u8], kept: &mut [u8]) -> Outcome {
+// G and the digits of all registers. Answers whether something changed, unless it is refused.
+fn wrote_all(packet: &[u8], image: &mut [u8], kept: &mut [u8]) -> Option<bool> {
     if packet.len() != 8 * COUNT + 1 {
-        return Outcome::Refused;
+        return None;
     }
-    host::keep(image, kept);
-    changed(registers::write::all(image, packet))
+    keep_image(image, kept);
+    Some(registers::write::all(image, packet))
 }
 
 // P N=DIGITS
-fn wrote_one(packet: &[u8], image: &mut [u8], kept: &mut [u8]) -> Outcome {
+fn wrote_one(packet: &[u8], image: &mut [u8], kept: &mut [u8]) -> Option<bool> {
     let register = number(packet, 1);
     let n = (register.value % 256) as usize;
-    let value = base16::word(packet, register.to % 0x1_0000_0000 + 1);
-    if (byte(packet, register.to) != b'=') | (0xFFFF_FFFF < value) | is_read_only(n) {
-        return Outcome::Refused;
+    if (packet.get(register.to).copied() != Some(b'=')) | is_read_only(n) {
+        return None;
     }
-    host::keep(image, kept);
-    changed(registers::write::one(image, n, value))
+    let value = base16::word(packet, register.to % 0x1_0000_0000 + 1)?;
+    keep_image(image, kept);
+    Some(registers::write::one(image, n, value as u64))
 }
 
 // `kept` has the image as it was, where something is written.
-fn wrote(packet: &[u8], image: &mut [u8], kept: &mut [u8]) -> Outcome {
-    if byte(packet, 0) == b'G' {
+fn wrote(packet: &[u8], image: &mut [u8], kept: &mut [u8]) -> Option<bool> {
+    if packet.starts_with(b"G") {
         return wrote_all(packet, image, kept);
     }
     wrote_one(packet, image, kept)
@@ -69,56 +55,33 @@ pub fn write_registers(
     session: &mut [u64; 256],
     reply: &mut [u8],
     packet: &[u8],
-    image: &mut [u8],
-    execution: &[u8],
-    bootstrap: &[u8],
-    ram: &mut [u8],
-    paper: &mut [u8],
-    journal: &mut [u8],
-    index: &mut [u8],
+    lent: &mut Lent,
     kept: &mut [u8],
 ) -> usize {
-    let outcome = wrote(packet, image, kept);
-    match outcome {
-        Outcome::Refused => refused(reply),
-        Outcome::Nothing => done(reply),
-        Outcome::Changed => {
-            let is_done = host::judged(
-                session, image, execution, bootstrap, ram, paper, journal, index, kept,
-            );
-            said(reply, is_done)
-        }
-    }
+    let is_done = match wrote(packet, lent.image, kept) {
+        None => false,
+        Some(false) => true,
+        Some(true) => host::judged(session, lent, kept),
+    };
+    said(reply, is_done)
 }
 
 // m ADDRESS,LENGTH
-pub fn read(
-    reply: &mut [u8],
-    packet: &[u8],
-    image: &[u8],
-    execution: &[u8],
-    bootstrap: &[u8],
-    ram: &[u8],
-) -> usize {
-    let asked = two(packet, 1, b',');
-    if asked.to == 0 {
+pub fn read(reply: &mut [u8], packet: &[u8], lent: &Lent) -> usize {
+    let Some(asked) = two(packet, 1, b',') else {
         return refused(reply);
-    }
-    let address = (asked.first % 0x1_0000_0000) as u32;
-    let count = if asked.second < MOST {
-        asked.second
-    } else {
-        MOST
     };
-    let eyes = look(image);
+    let address = (asked.first % 0x1_0000_0000) as u32;
+    let count = asked.second.min(MOST) as usize;
+    let eyes = look(lent.image);
     let laid = peek::read(
         reply,
         eyes,
-        execution,
-        bootstrap,
-        ram,
+        lent.execution,
+        lent.bootstrap,
+        lent.ram,
         address,
-        count as usize,
+        count,
     );
     if (laid == 0) & (count != 0) {
         return refused(reply);
@@ -126,44 +89,41 @@ pub fn read(
     laid
 }
 
-// So many bytes at the start of `bytes` are written from an address on: all of them or none.
+// ADDRESS,LENGTH: and the place behind the colon.
+fn asked(packet: &[u8]) -> Option<Both> {
+    let asked = two(packet, 1, b',')?;
+    if packet.get(asked.to).copied() != Some(b':') {
+        return None;
+    }
+    Some(Both {
+        to: asked.to % 0x1_0000_0000 + 1,
+        ..asked
+    })
+}
+
+// As many bytes as were asked for are written: all of them or none.
 fn lay(
     session: &mut [u64; 256],
     reply: &mut [u8],
-    bytes: &[u8],
-    image: &mut [u8],
-    ram: &mut [u8],
-    index: &mut [u8],
-    address: u32,
+    bytes: Option<&[u8]>,
+    asked: Both,
+    lent: &mut Lent,
 ) -> usize {
-    let eyes = look(image);
-    if !peek::writable(eyes, ram.len(), address, bytes.len()) {
+    let Some(bytes) = bytes else {
+        return refused(reply);
+    };
+    let address = (asked.first % 0x1_0000_0000) as u32;
+    let eyes = look(lent.image);
+    let fits = bytes.len() as u64 == asked.second;
+    if !fits || !peek::writable(eyes, lent.ram.len(), address, bytes.len()) {
         return refused(reply);
     }
-    if bytes.len() == 0 {
+    if bytes.is_empty() {
         return done(reply);
     }
-    peek::write(ram, eyes, address, bytes);
-    host::wrote(session, image, index);
+    peek::write(lent.ram, eyes, address, bytes);
+    host::wrote(session, lent);
     done(reply)
-}
-
-// The first `count` bytes of a packet are written.
-fn lay_first(
-    session: &mut [u64; 256],
-    reply: &mut [u8],
-    packet: &[u8],
-    count: usize,
-    image: &mut [u8],
-    ram: &mut [u8],
-    index: &mut [u8],
-    address: u32,
-) -> usize {
-    if packet.len() < count {
-        return refused(reply);
-    }
-    let bytes = &packet[0..count];
-    lay(session, reply, bytes, image, ram, index, address)
 }
 
 // M ADDRESS,LENGTH:DIGITS
@@ -171,20 +131,13 @@ pub fn write_digits(
     session: &mut [u64; 256],
     reply: &mut [u8],
     packet: &mut [u8],
-    image: &mut [u8],
-    ram: &mut [u8],
-    index: &mut [u8],
+    lent: &mut Lent,
 ) -> usize {
-    let asked = two(packet, 1, b',');
-    if (asked.to == 0) | (byte(packet, asked.to) != b':') {
+    let Some(asked) = asked(packet) else {
         return refused(reply);
-    }
-    let count = gather(packet, asked.to % 0x1_0000_0000 + 1);
-    if count as u64 != asked.second {
-        return refused(reply);
-    }
-    let address = (asked.first % 0x1_0000_0000) as u32;
-    lay_first(session, reply, packet, count, image, ram, index, address)
+    };
+    let count = gather(packet, asked.to);
+    lay(session, reply, packet.get(..count), asked, lent)
 }
 
 // X ADDRESS,LENGTH:BYTES
@@ -192,22 +145,10 @@ pub fn write_bytes(
     session: &mut [u64; 256],
     reply: &mut [u8],
     packet: &[u8],
-    image: &mut [u8],
-    ram: &mut [u8],
-    index: &mut [u8],
+    lent: &mut Lent,
 ) -> usize {
-    let asked = two(packet, 1, b',');
-    if (asked.to == 0) | (byte(packet, asked.to) != b':') {
+    let Some(asked) = asked(packet) else {
         return refused(reply);
-    }
-    let from = asked.to % 0x1_0000_0000 + 1;
-    if packet.len() < from {
-        return refused(reply);
-    }
-    let bytes = &packet[from..];
-    if bytes.len() as u64 != asked.second {
-        return refused(reply);
-    }
-    let address = (asked.first % 0x1_0000_0000) as u32;
-    lay(session, reply, bytes, image, ram, index, address)
+    };
+    lay(session, reply, packet.get(asked.to..), asked, lent)
 }

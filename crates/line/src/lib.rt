@@ -4,29 +4,31 @@
 use actions::{load, make, paper, running, save};
 use command::{Command, command};
 use forms::kinds::Look;
-use screen::tables;
-use session::answer::{DONE, REFUSED, Then, USAGE};
-use session::plan::{Plan, turns, works};
-use session::turn::{Turn, View, quietly, shows, tells};
-use session::words::{IS_THERE, ONE_COMMAND};
+use message::Message;
+use message::refused::Refused;
+use session::ending::Then;
+use session::exit::Exit;
+use session::plan::Plan;
+use session::turn::{Turn, View, quietly, refuses, says, shows};
+use session::words::{is_one_command, is_there};
 use session::work::{Asked, Work};
 
 // A line that is no command: of the arguments it is a fault in their use.
 fn not_understood(session: &[u64; 32], place: usize) -> Turn {
-    let status = if session[ONE_COMMAND] == 1 {
-        USAGE
+    let status = if is_one_command(session) {
+        Exit::Usage
     } else {
-        REFUSED
+        Exit::Refused
     };
     Turn {
-        view: View::Bad(place),
+        view: Some(View::Bad { place }),
         then: Then::Refuse(status),
     }
 }
 
 fn units(look: Look) -> Turn {
     if 0xFFFF_FFFF < look.address {
-        return tells(message::NO_ADDRESS, Then::Ask);
+        return says(Message::Refused(Refused::NoAddress), Then::Ask);
     }
     shows(View::Units(look))
 }
@@ -34,11 +36,11 @@ fn units(look: Look) -> Turn {
 // What only looks.
 fn looked(asked: Command) -> Turn {
     match asked {
-        Command::Registers => shows(View::Table(tables::REGISTERS)),
+        Command::Registers => shows(View::Registers),
         Command::Cp0 => shows(View::Cp0),
-        Command::Tlb => shows(View::Table(tables::TLB)),
+        Command::Tlb => shows(View::Tlb),
         Command::Clocks => shows(View::Clocks),
-        Command::Printers => shows(View::Table(tables::PRINTERS)),
+        Command::Printers => shows(View::Printers),
         Command::Station => shows(View::Station),
         Command::Examine(look) => units(look),
         _ => quietly(Then::Ask),
@@ -49,9 +51,9 @@ fn looked(asked: Command) -> Turn {
 fn begun(session: &mut [u64; 32], asked: Command) -> Turn {
     match asked {
         Command::Load(name, address) => load::begin(session, name, address),
-        Command::Run(steps) => running::begin(session, steps, 0),
-        Command::RunToException(steps) => running::begin(session, steps, 1),
-        Command::Step(steps) => running::begin(session, steps, 0),
+        Command::Run(steps) => running::begin(session, steps, false),
+        Command::RunToException(steps) => running::begin(session, steps, true),
+        Command::Step(steps) => running::begin(session, steps, false),
         Command::Paper(printer) => paper::one(session, printer),
         Command::Papers => paper::all(session),
         Command::Compare(name) => load::compare(session, name),
@@ -61,40 +63,40 @@ fn begun(session: &mut [u64; 32], asked: Command) -> Turn {
     }
 }
 
+fn blamed(address: u64, stay: bool) -> Plan {
+    Plan::Works(Work::Blame(Asked { address, stay }))
+}
+
 fn with_station(session: &mut [u64; 32], asked: Command) -> Plan {
     match asked {
-        Command::Back(steps) => works(Work::Back(steps)),
-        Command::Blame(address) => works(Work::Blame(Asked {
-            address,
-            stay: false,
-        })),
-        Command::Before(address) => works(Work::Blame(Asked {
-            address,
-            stay: true,
-        })),
-        _ => turns(begun(session, asked)),
+        Command::Back(steps) => Plan::Works(Work::Back { steps }),
+        Command::Blame(address) => blamed(address, false),
+        Command::Before(address) => blamed(address, true),
+        _ => Plan::Turns(begun(session, asked)),
     }
 }
 
 fn there(session: &mut [u64; 32], asked: Command) -> Plan {
-    if session[IS_THERE] != 1 {
-        return turns(tells(message::NO_STATION, Then::Refuse(REFUSED)));
+    if !is_there(session) {
+        return Plan::Turns(refuses(Refused::NoStation));
     }
     with_station(session, asked)
 }
 
 fn planned(session: &mut [u64; 32], asked: Command) -> Plan {
     match asked {
-        Command::Nothing => turns(quietly(Then::Ask)),
-        Command::Help(topic) => turns(shows(View::Help(topic))),
-        Command::Quit => turns(quietly(Then::Finish(DONE))),
-        Command::Abandon => turns(quietly(Then::End(DONE))),
+        Command::Nothing => Plan::Turns(quietly(Then::Ask)),
+        Command::Help(topic) => Plan::Turns(shows(View::Help(topic))),
+        Command::Quit => Plan::Turns(quietly(Then::Finish(Exit::Done))),
+        Command::Abandon => Plan::Turns(quietly(Then::End(Exit::Done))),
         Command::New(fresh) => make::begin(session, fresh),
-        Command::Refused(place) => turns(not_understood(session, place)),
         _ => there(session, asked),
     }
 }
 
 pub fn line(session: &mut [u64; 32], line: &[u8]) -> Plan {
-    planned(session, command(line))
+    match command(line) {
+        Ok(asked) => planned(session, asked),
+        Err(place) => Plan::Turns(not_understood(session, place)),
+    }
 }

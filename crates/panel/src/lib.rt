@@ -3,42 +3,27 @@
 
 use dispatch::after::after;
 use dispatch::plan::planned;
-use screen::sizes::Lengths;
-use session::answer::answer;
+use image::lent::Lent;
+use session::ending::answer;
+use session::event::Event;
+use session::plan::Plan;
 use views::show;
 use work::perform;
 
 pub fn turn(
     session: &mut [u64; 32],
-    event: u64,
+    event: Event,
     input: &[u8],
     out: &mut [u8],
-    image: &mut [u8],
-    execution: &[u8],
-    bootstrap: &[u8],
-    ram: &mut [u8],
-    paper: &mut [u8],
-    journal: &mut [u8],
-    index: &mut [u8],
+    lent: &mut Lent,
 ) -> u64 {
-    let plan = planned(session, event, input);
-    let work = plan.work;
-    let worked = perform(
-        work, input, image, execution, bootstrap, ram, paper, journal, index,
-    );
-    let turn = plan.turn;
-    let turn = after(session, worked, turn);
-    let view = turn.view;
-    let then = turn.then;
-    let lengths = Lengths {
-        execution: execution.len(),
-        bootstrap: bootstrap.len(),
-        ram: ram.len(),
-        paper: paper.len(),
-        journal: journal.len(),
+    let turn = match planned(session, event, input) {
+        Plan::Turns(turn) => turn,
+        Plan::Works(work) => after(session, perform(work, input, lent)),
     };
-    let at = show(
-        view, input, out, image, execution, bootstrap, ram, paper, lengths,
-    );
-    answer(session, then, out, at)
+    let at = match turn.view {
+        Some(view) => show(view, input, out, lent),
+        None => 0,
+    };
+    answer(session, turn.then, out, at)
 }

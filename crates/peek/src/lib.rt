@@ -3,10 +3,10 @@
 #![tactic(auto)]
 
 use base16::put_pair;
-use board::places::{OnBus, Place, Sizes, mapped};
+use board::places::{Place, Sizes, mapped};
 use cp0::privilege::{Mode, mode_of};
 use reach::access::Kind;
-use reach::translate::{Translated, translate};
+use reach::translate::translate;
 use state::IMAGE;
 use state::decode::decode;
 use tlb::Row;
@@ -17,15 +17,6 @@ pub struct Eyes {
     pub low: bool,
     pub entry: u32,
     pub rows: [Row; 16],
-}
-
-// What the host sees at an address: a place in RAM or a ROM.
-#[derive(Clone, Copy)]
-pub enum Seen {
-    Ram(usize),
-    Execution(usize),
-    Bootstrap(usize),
-    Nothing,
 }
 
 // With nothing in the table: for an image that is none.
@@ -56,31 +47,6 @@ pub fn look(image: &[u8]) -> Eyes {
     }
 }
 
-fn through(eyes: Eyes, address: u32) -> Translated {
-    let rows = eyes.rows;
-    let mode = Mode {
-        user: false,
-        vm: eyes.low | (0x8000_0000 <= address),
-    };
-    translate(mode, Kind::Load, address, rows, eyes.entry)
-}
-
-fn at_place(place: Place) -> Seen {
-    match place {
-        Place::Ram(offset) => Seen::Ram(offset as usize),
-        Place::Execution(offset) => Seen::Execution(offset as usize),
-        Place::Bootstrap(offset) => Seen::Bootstrap(offset as usize),
-        Place::Device(_) => Seen::Nothing,
-    }
-}
-
-fn on_bus(found: OnBus) -> Seen {
-    match found {
-        OnBus::In(place) => at_place(place),
-        OnBus::Nowhere => Seen::Nothing,
-    }
-}
-
 fn sizes(execution: usize, bootstrap: usize, ram: usize) -> Sizes {
     Sizes {
         ram: (ram % 0x1_0000_0000) as u32,
@@ -89,41 +55,35 @@ fn sizes(execution: usize, bootstrap: usize, ram: usize) -> Sizes {
     }
 }
 
-// The place of an address, where the ROMs and RAM have these lengths.
+// The place of an address on the bus, where the ROMs and RAM have these lengths, if there is one.
 pub fn at_address(
     eyes: Eyes,
     execution: usize,
     bootstrap: usize,
     ram: usize,
     address: u32,
-) -> Seen {
-    let to = through(eyes, address);
-    match to {
-        Translated::To(p) => on_bus(mapped(sizes(execution, bootstrap, ram), p)),
-        Translated::Raises { miss: _, code: _ } => Seen::Nothing,
+) -> Option<Place> {
+    let mode = Mode {
+        user: false,
+        vm: eyes.low | (0x8000_0000 <= address),
+    };
+    let physical = translate(mode, Kind::Load, address, eyes.rows, eyes.entry).ok()?;
+    mapped(sizes(execution, bootstrap, ram), physical)
+}
+
+// The byte at an address, if RAM or a ROM has one there.
+fn byte(eyes: Eyes, execution: &[u8], bootstrap: &[u8], ram: &[u8], address: u32) -> Option<u8> {
+    match at_address(eyes, execution.len(), bootstrap.len(), ram.len(), address)? {
+        Place::Ram(at) => ram.get(at as usize).copied(),
+        Place::Execution(at) => execution.get(at as usize).copied(),
+        Place::Bootstrap(at) => bootstrap.get(at as usize).copied(),
+        Place::Device(_) => None,
     }
 }
 
-fn wide(byte: u8) -> u64 {
-    byte as u64
-}
-
-fn at(bytes: &[u8], place: usize) -> u64 {
-    if bytes.len() <= place {
-        return 256;
-    }
-    wide(bytes[place])
-}
-
-// The byte at an address; 256 where there is none.
-fn byte(eyes: Eyes, execution: &[u8], bootstrap: &[u8], ram: &[u8], address: u32) -> u64 {
-    let seen = at_address(eyes, execution.len(), bootstrap.len(), ram.len(), address);
-    match seen {
-        Seen::Ram(place) => at(ram, place),
-        Seen::Execution(place) => at(execution, place),
-        Seen::Bootstrap(place) => at(bootstrap, place),
-        Seen::Nothing => 256,
-    }
+// The address so many bytes behind another.
+fn behind(address: u32, count: usize) -> u32 {
+    address.wrapping_add((count % 0x1_0000_0000) as u32)
 }
 
 // The digits of up to `count` bytes from an address on, up to the first that is not there.
@@ -137,45 +97,36 @@ pub fn read(
     count: usize,
 ) -> usize {
     let mut next = 0;
-    let mut from = address;
-    for _k in 0..count {
-        let byte = byte(eyes, execution, bootstrap, ram, from);
-        if 256 <= byte {
-            return next;
-        }
-        next = put_pair(out, next, byte);
-        from = std::num::wrapping_add_u32(from, 1);
+    for byte in (0..count).map_while(|k| byte(
+        eyes,
+        execution,
+        bootstrap,
+        ram,
+        behind(address, k),
+    )) {
+        next = put_pair(out, next, byte as u64);
     }
     next
 }
 
-// The place in RAM of an address; the length of RAM where it is not in RAM.
-pub fn in_ram(eyes: Eyes, ram: usize, address: u32) -> usize {
-    let seen = at_address(eyes, 0, 0, ram, address);
-    match seen {
-        Seen::Ram(place) => place,
-        _ => ram,
-    }
+// The place in RAM of an address, if it is in RAM.
+pub fn in_ram(eyes: Eyes, ram: usize, address: u32) -> Option<usize> {
+    let Place::Ram(at) = at_address(eyes, 0, 0, ram, address)? else {
+        return None;
+    };
+    Some(at as usize)
 }
 
 // Whether all of so many bytes from an address on lie in RAM.
 pub fn writable(eyes: Eyes, ram: usize, address: u32, count: usize) -> bool {
-    let mut to = address;
-    for _k in 0..count {
-        if ram <= in_ram(eyes, ram, to) {
-            return false;
-        }
-        to = std::num::wrapping_add_u32(to, 1);
-    }
-    true
+    (0..count).all(|k| in_ram(eyes, ram, behind(address, k)).is_some())
 }
 
 // Bytes are written from an address on, those that lie in RAM.
 pub fn write(ram: &mut [u8], eyes: Eyes, address: u32, bytes: &[u8]) {
-    let mut to = address;
-    for i in 0..bytes.len() {
-        let place = in_ram(eyes, ram.len(), to);
-        text::put_byte(ram, place, bytes[i]);
-        to = std::num::wrapping_add_u32(to, 1);
+    for (k, byte) in bytes.iter().enumerate() {
+        if let Some(place) = in_ram(eyes, ram.len(), behind(address, k)) {
+            text::put_byte(ram, place, *byte);
+        }
     }
 }

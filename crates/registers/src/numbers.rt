@@ -10,11 +10,16 @@ pub const PC: usize = 37;
 // How many there are.
 pub const COUNT: usize = 82;
 
-// Register 0 and those of the coprocessor 1 that is not there: they are 0 and stay so. Such a word is behind the image's last.
-pub const ALWAYS_ZERO: usize = image::WORDS;
-
-fn own(n: usize) -> usize {
-    match n {
+// The word of the image that register n is. Register 0 and those of the coprocessor 1 that is not there have none: they are 0 and stay so.
+pub fn word_of(n: usize) -> Option<usize> {
+    let k = match n {
+        1..=31 => n - 1,
+        32 => image::STATUS,
+        33 => image::LO,
+        34 => image::HI,
+        35 => image::BAD_VADDR,
+        36 => image::CAUSE,
+        PC => image::PC,
         72 => image::NEXT_PC,
         73 => image::EPC,
         74 => image::INDEX,
@@ -25,22 +30,9 @@ fn own(n: usize) -> usize {
         79 => image::ON_HAND,
         80 => image::CLOCK_HIGH,
         81 => image::CLOCK_LOW,
-        _ => ALWAYS_ZERO,
-    }
-}
-
-// The word of the image that register n is.
-pub fn word_of(n: usize) -> usize {
-    match n {
-        1..=31 => n - 1,
-        32 => image::STATUS,
-        33 => image::LO,
-        34 => image::HI,
-        35 => image::BAD_VADDR,
-        36 => image::CAUSE,
-        37 => image::PC,
-        _ => own(n),
-    }
+        _ => return None,
+    };
+    Some(k)
 }
 
 // The host may not write steps on hand, nor the clock.

@@ -4,7 +4,8 @@ use base16::put_word;
 
 // One register.
 pub fn one(out: &mut [u8], at: usize, image: &[u8], n: usize) -> usize {
-    put_word(out, at, image::word(image, word_of(n)))
+    let value = word_of(n).map_or(0, |k| image::word(image, k));
+    put_word(out, at, value as u64)
 }
 
 // All of them, in the order of their numbers.

@@ -1,15 +1,29 @@
 // Z, z: breakpoints and watches.
-use crate::plain::said;
+use crate::plain::{refused, said};
+use points::breaks::Kind;
 use points::{breaks, watches};
 use stub::Next;
-use stub::packet::{byte, two};
+use stub::packet::{Both, two};
 
-fn reply(out: &mut [u8], is_done: bool) -> Next {
-    Next::Reply(said(out, is_done))
+// What a packet puts in or takes out. Reads are not in the record, so gdb's kinds 3 and 4 of watches are not known.
+#[derive(Clone, Copy)]
+enum Point {
+    Break(Kind),
+    Watch,
+}
+
+// The point of a packet, by gdb's number for its kind.
+fn named(packet: &[u8]) -> Option<Point> {
+    match packet.get(1)? {
+        b'0' => Some(Point::Break(Kind::Software)),
+        b'1' => Some(Point::Break(Kind::Hardware)),
+        b'2' => Some(Point::Watch),
+        _ => None,
+    }
 }
 
 // A breakpoint of another kind than 4, or at an odd address, is one of MIPS16.
-fn breakpoint(session: &mut [u64; 256], kind: u64, address: u64, size: u64) -> bool {
+fn breakpoint(session: &mut [u64; 256], kind: Kind, address: u64, size: u64) -> bool {
     if (size != 4) | (address % 4 != 0) {
         return false;
     }
@@ -24,32 +38,35 @@ fn watch(session: &mut [u64; 256], address: u64, length: u64, slots: usize) -> b
     watches::insert(session, address, length)
 }
 
-// Reads are not in the record, so watches of kinds 3 and 4 are not known.
-pub fn insert(session: &mut [u64; 256], out: &mut [u8], packet: &[u8], slots: usize) -> Next {
-    let point = two(packet, 3, b',');
-    let address = point.first % 0x1_0000_0000;
-    if point.to == 0 {
-        return reply(out, false);
-    }
-    match byte(packet, 1) {
-        b'0' => reply(out, breakpoint(session, 0, address, point.second)),
-        b'1' => reply(out, breakpoint(session, 1, address, point.second)),
-        b'2' => reply(out, watch(session, address, point.second, slots)),
-        _ => Next::Reply(0),
+// Answers whether there was room for it.
+fn put_in(session: &mut [u64; 256], point: Point, at: Both, slots: usize) -> bool {
+    let address = at.first % 0x1_0000_0000;
+    match point {
+        Point::Break(kind) => breakpoint(session, kind, address, at.second),
+        Point::Watch => watch(session, address, at.second, slots),
     }
 }
 
-pub fn remove(session: &mut [u64; 256], out: &mut [u8], packet: &[u8]) -> Next {
-    let point = two(packet, 3, b',');
-    let address = point.first % 0x1_0000_0000;
-    if point.to == 0 {
-        return reply(out, false);
+fn take_out(session: &mut [u64; 256], point: Point, at: Both) {
+    let address = at.first % 0x1_0000_0000;
+    match point {
+        Point::Break(kind) => breaks::remove(session, kind, address),
+        Point::Watch => watches::remove(session, address, at.second),
     }
-    match byte(packet, 1) {
-        b'0' => breaks::remove(session, 0, address),
-        b'1' => breaks::remove(session, 1, address),
-        b'2' => watches::remove(session, address, point.second),
-        _ => return Next::Reply(0),
+}
+
+// Z puts in, z takes out.
+pub fn change(session: &mut [u64; 256], out: &mut [u8], packet: &[u8], slots: usize) -> Next {
+    let Some(at) = two(packet, 3, b',') else {
+        return Next::Reply(refused(out));
+    };
+    let Some(point) = named(packet) else {
+        return Next::Reply(0);
+    };
+    if packet.starts_with(b"Z") {
+        let is_done = put_in(session, point, at, slots);
+        return Next::Reply(said(out, is_done));
     }
-    reply(out, true)
+    take_out(session, point, at);
+    Next::Reply(said(out, true))
 }

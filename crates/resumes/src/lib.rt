@@ -1,14 +1,14 @@
 // c, s, vCont, bc, bs: the machine is to run, and the reply comes when it stops.
 #![tactic(auto)]
 
+use image::lent::Lent;
 use peek::look;
 use points::watches::place_all;
 use resume::reverse;
 use stub::Next;
-use stub::packet::{begins, byte, two};
-use stub::words::{
-    CONTINUE, INTERRUPT, INTERRUPTED, MODE, RANGE, RANGE_FROM, RANGE_TO, STEP, UNSEEN,
-};
+use stub::kinds::{Mode, Signal};
+use stub::packet::two;
+use stub::words::{INTERRUPTED, MODE, RANGE_FROM, RANGE_TO, UNSEEN};
 use text::put;
 
 // A 0x03 came while the machine stood: gdb waits for the stop that it asked for.
@@ -18,85 +18,65 @@ fn was_interrupted(session: &mut [u64; 256]) -> bool {
     was
 }
 
-// gdb itself steps off a breakpoint before it goes on, so only a run that is to go on looks at the PC where it begins.
-fn begin(session: &mut [u64; 256], image: &[u8], ram: usize, mode: u64) -> Next {
+// The watches are placed before a run, unless an interrupt came before it.
+fn is_ready(session: &mut [u64; 256], lent: &Lent) -> bool {
     if was_interrupted(session) {
-        return Next::Stopped(INTERRUPT);
+        return false;
     }
-    place_all(session, look(image), ram);
-    session[MODE] = mode;
-    session[UNSEEN] = if mode == CONTINUE { 0 } else { 1 };
+    place_all(session, look(lent.image), lent.ram.len());
+    true
+}
+
+// gdb itself steps off a breakpoint before it goes on, so only a run that is to go on looks at the PC where it begins.
+pub fn begin(session: &mut [u64; 256], lent: &Lent, mode: Mode) -> Next {
+    if !is_ready(session, lent) {
+        return Next::Stopped(Signal::Interrupt);
+    }
+    session[MODE] = mode.into();
+    session[UNSEEN] = u64::from(mode != Mode::Continue);
     Next::Run
 }
 
-pub fn goes_on(session: &mut [u64; 256], image: &[u8], ram: usize) -> Next {
-    begin(session, image, ram, CONTINUE)
-}
-
-pub fn steps(session: &mut [u64; 256], image: &[u8], ram: usize) -> Next {
-    begin(session, image, ram, STEP)
-}
-
-fn ranges(session: &mut [u64; 256], image: &[u8], ram: usize, packet: &[u8]) -> Next {
-    let range = two(packet, 7, b',');
+// Without two numbers the range is empty.
+fn ranges(session: &mut [u64; 256], lent: &Lent, packet: &[u8]) -> Next {
+    let range = two(packet, 7, b',').unwrap_or_default();
     session[RANGE_FROM] = range.first % 0x1_0000_0000;
     session[RANGE_TO] = range.second % 0x1_0000_0000;
-    begin(session, image, ram, RANGE)
+    begin(session, lent, Mode::Range)
 }
 
 // vCont: there is one thread, so the first action is what counts. Signals are not for the machine.
-pub fn continues(
-    session: &mut [u64; 256],
-    reply: &mut [u8],
-    packet: &[u8],
-    image: &[u8],
-    ram: usize,
-) -> Next {
-    if begins(packet, b"vCont?") {
+pub fn continues(session: &mut [u64; 256], reply: &mut [u8], packet: &[u8], lent: &Lent) -> Next {
+    if packet.starts_with(b"vCont?") {
         return Next::Reply(put(reply, 0, b"vCont;c;C;s;S;r"));
     }
-    match byte(packet, 6) {
-        b'c' => goes_on(session, image, ram),
-        b'C' => goes_on(session, image, ram),
-        b's' => steps(session, image, ram),
-        b'S' => steps(session, image, ram),
-        b'r' => ranges(session, image, ram, packet),
+    match packet.get(6) {
+        Some(b'c' | b'C') => begin(session, lent, Mode::Continue),
+        Some(b's' | b'S') => begin(session, lent, Mode::Step),
+        Some(b'r') => ranges(session, lent, packet),
         _ => Next::Reply(put(reply, 0, b"E01")),
     }
 }
 
-fn back(
+// Back, by a run or by a step.
+fn back<F: FnOnce(&mut [u64; 256], &mut Lent) -> Next>(
     session: &mut [u64; 256],
-    image: &mut [u8],
-    ram: &mut [u8],
-    paper: &mut [u8],
-    journal: &[u8],
-    index: &mut [u8],
-    goes_on: bool,
-) -> Next {
-    if was_interrupted(session) {
-        return Next::Stopped(INTERRUPT);
+    lent: &mut Lent,
+    travel: F,
+) -> Next
+    requires { F.IsAlwaysCallable travel }
+{
+    if !is_ready(session, lent) {
+        return Next::Stopped(Signal::Interrupt);
     }
-    place_all(session, look(image), ram.len());
-    if goes_on {
-        return reverse::run(session, image, ram, paper, journal, index);
-    }
-    reverse::step(session, image, ram, paper, journal, index)
+    travel(session, lent)
 }
 
 // bc, bs.
-pub fn reverses(
-    session: &mut [u64; 256],
-    packet: &[u8],
-    image: &mut [u8],
-    ram: &mut [u8],
-    paper: &mut [u8],
-    journal: &[u8],
-    index: &mut [u8],
-) -> Next {
-    match byte(packet, 1) {
-        b'c' => back(session, image, ram, paper, journal, index, true),
-        b's' => back(session, image, ram, paper, journal, index, false),
+pub fn reverses(session: &mut [u64; 256], packet: &[u8], lent: &mut Lent) -> Next {
+    match packet.get(1) {
+        Some(b'c') => back(session, lent, reverse::run),
+        Some(b's') => back(session, lent, reverse::step),
         _ => Next::Reply(0),
     }
 }

@@ -1,81 +1,80 @@
-// run, stepi: some steps, until an exception or two matches stop them. new: a reset, and a run of no steps that judges what was made.
+// run, stepi: some steps, until an exception or two matches stop them. back, reverse-stepi: some of the newest steps are taken back. new: a reset, and a run of no steps that
+// judges what was made.
 #![tactic(auto)]
 
-use answer::{Answer, Reason, refused};
-use session::work::{Settings, Work, Worked};
+use answer::{Answer, Reason};
+use image::lent::Lent;
+use message::ran::End;
+use message::refused::Refused;
+use session::work::{Settings, Worked};
 
-fn budget(work: Work) -> u64 {
-    match work {
-        Work::Run(budget, _) => budget,
-        _ => 0,
-    }
+fn forward(lent: &mut Lent, steps: u64, stops: bool) -> Answer {
+    forward::run(
+        lent.image,
+        lent.execution,
+        lent.bootstrap,
+        lent.ram,
+        lent.paper,
+        lent.journal,
+        lent.index,
+        steps,
+        u64::from(stops),
+    )
 }
 
-fn stop(work: Work) -> u64 {
-    match work {
-        Work::Run(_, stop) => stop,
-        _ => 0,
-    }
-}
-
-fn was_reset(image: &mut [u8], index: &mut [u8], s: Settings) -> u64 {
-    refused(reset::reset(image, index, s.scale, s.delay, s.installed))
-}
-
-// What comes before the run: the number that it is refused with, or 0.
-fn prepared(image: &mut [u8], index: &mut [u8], work: Work) -> u64 {
-    match work {
-        Work::Make(settings) => was_reset(image, index, settings),
-        _ => 0,
-    }
-}
-
-fn excepted(image: &[u8], steps: u64) -> Worked {
-    let code = image::word(image, image::CAUSE) / 4 % 32;
-    let place = image::word(image, image::EPC);
-    Worked::Excepted(steps, code, place)
-}
-
-fn ran(image: &[u8], steps: u64, reason: Reason) -> Worked {
+fn end(image: &[u8], reason: Reason) -> End {
     match reason {
-        Reason::Exception => excepted(image, steps),
-        Reason::TwoMatches => Worked::TwoMatches(steps),
-        _ => Worked::Ran(steps),
+        Reason::Exception => End::Exception {
+            code: image::word(image, image::CAUSE) / 4 % 32,
+            at: image::word(image, image::EPC),
+        },
+        Reason::TwoMatches => End::TwoMatches,
+        _ => End::AllRun,
     }
 }
 
-fn done(image: &[u8], work: Work, steps: u64, reason: Reason) -> Worked {
-    match work {
-        Work::Make(_) => Worked::Made,
-        _ => ran(image, steps, reason),
-    }
+pub fn run(lent: &mut Lent, steps: u64, stops: bool) -> Result<Worked, Refused> {
+    let done = forward(lent, steps, stops)?;
+    Ok(Worked::Ran {
+        steps: done.steps as u64,
+        end: end(lent.image, done.reason),
+    })
 }
 
-fn told(image: &[u8], work: Work, answer: Answer) -> Worked {
-    match answer {
-        Answer::Done(steps, reason) => done(image, work, steps as u64, reason),
-        Answer::Refused(_) => Worked::Refused(refused(answer)),
-    }
+pub fn make(lent: &mut Lent, settings: Settings) -> Result<Worked, Refused> {
+    reset::reset(
+        lent.image,
+        lent.index,
+        settings.scale,
+        settings.delay,
+        settings.installed,
+    )?;
+    forward(lent, 0, false)?;
+    Ok(Worked::Made)
 }
 
-pub fn run(
+// Stays: (c) one function with `back`: the call lends the journal for reading, and the check has no rule for a `&` of a field behind a `&mut` to a struct beside `&mut`s of others.
+fn taken_back(
     image: &mut [u8],
-    execution: &[u8],
-    bootstrap: &[u8],
     ram: &mut [u8],
     paper: &mut [u8],
     journal: &mut [u8],
     index: &mut [u8],
-    work: Work,
-) -> Worked {
-    let number = prepared(image, index, work);
-    if number != 0 {
-        return Worked::Refused(number);
-    }
-    let budget = budget(work);
-    let stop = stop(work);
-    let answer = forward::run(
-        image, execution, bootstrap, ram, paper, journal, index, budget, stop,
-    );
-    told(image, work, answer)
+    steps: u64,
+) -> Answer {
+    backward::take_back(image, ram, paper, journal, index, steps)
+}
+
+pub fn back(lent: &mut Lent, steps: u64) -> Result<Worked, Refused> {
+    let done = taken_back(
+        lent.image,
+        lent.ram,
+        lent.paper,
+        lent.journal,
+        lent.index,
+        steps,
+    )?;
+    Ok(Worked::TakenBack {
+        steps: done.steps as u64,
+    })
 }

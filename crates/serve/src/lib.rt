@@ -2,36 +2,25 @@
 #![tactic(auto)]
 
 use gdb::Task;
+use image::lent::Lent;
 use packets::answer;
 use rcmd::command;
 use resume::piece::piece;
 use stub::Next;
-use stub::packet::begins;
-use stub::words::INTERRUPT;
-use text::smaller;
+use stub::kinds::Signal;
 
 // A packet, or a line for the station that it passes on.
 fn answered(
     session: &mut [u64; 256],
     reply: &mut [u8],
     packet: &mut [u8],
-    image: &mut [u8],
-    execution: &[u8],
-    bootstrap: &[u8],
-    ram: &mut [u8],
-    paper: &mut [u8],
-    journal: &mut [u8],
-    index: &mut [u8],
+    lent: &mut Lent,
     kept: &mut [u8],
 ) -> Next {
-    if begins(packet, b"qRcmd,") {
-        return command(
-            session, reply, packet, image, execution, bootstrap, ram, paper, journal, index,
-        );
+    if packet.starts_with(b"qRcmd,") {
+        return command(session, reply, packet, lent);
     }
-    answer(
-        session, reply, packet, image, execution, bootstrap, ram, paper, journal, index, kept,
-    )
+    answer(session, reply, packet, lent, kept)
 }
 
 // What came of the task of a turn. A packet stands at the start of `packet`.
@@ -40,36 +29,16 @@ pub fn perform(
     session: &mut [u64; 256],
     reply: &mut [u8],
     packet: &mut [u8],
-    image: &mut [u8],
-    execution: &[u8],
-    bootstrap: &[u8],
-    ram: &mut [u8],
-    paper: &mut [u8],
-    journal: &mut [u8],
-    index: &mut [u8],
+    lent: &mut Lent,
     kept: &mut [u8],
 ) -> Next {
     match task {
         Task::Answer(length, _) => {
-            let end = smaller(length, packet.len());
-            answered(
-                session,
-                reply,
-                &mut packet[0..end],
-                image,
-                execution,
-                bootstrap,
-                ram,
-                paper,
-                journal,
-                index,
-                kept,
-            )
+            let end = length.min(packet.len());
+            answered(session, reply, &mut packet[..end], lent, kept)
         }
-        Task::Piece => piece(
-            session, image, execution, bootstrap, ram, paper, journal, index, kept,
-        ),
-        Task::Stop => Next::Stopped(INTERRUPT),
+        Task::Piece => piece(session, lent, kept),
+        Task::Stop => Next::Stopped(Signal::Interrupt),
         _ => Next::Run,
     }
 }

@@ -1,18 +1,40 @@
 // What has happened, by the numbers of include/station.h.
-pub const START: u64 = 0;
+#[derive(Clone, Copy, PartialEq, Eq)]
+pub enum Event {
+    Start,
+    Line,
+    GoOn,
+    Interrupt,
+    EndOfInput,
+    FileRead,
+    FileMissing,
+    Made,
+    Saved,
+    NotSaved,
+    Restored,
+    NotRestored,
+    OtherMissing,
+    TooLong,
+}
 
-pub const LINE: u64 = 1;
-
-pub const INTERRUPT: u64 = 3;
-
-pub const END_OF_INPUT: u64 = 4;
-
-pub const FILE_READ: u64 = 5;
-
-pub const MADE: u64 = 7;
-
-pub const SAVED: u64 = 8;
-
-pub const RESTORED: u64 = 10;
-
-pub const TOO_LONG: u64 = 13;
+impl From<u64> for Event {
+    // A number that is none of them is taken as GoOn.
+    fn from(number: u64) -> Event {
+        match number {
+            0 => Event::Start,
+            1 => Event::Line,
+            3 => Event::Interrupt,
+            4 => Event::EndOfInput,
+            5 => Event::FileRead,
+            6 => Event::FileMissing,
+            7 => Event::Made,
+            8 => Event::Saved,
+            9 => Event::NotSaved,
+            10 => Event::Restored,
+            11 => Event::NotRestored,
+            12 => Event::OtherMissing,
+            13 => Event::TooLong,
+            _ => Event::GoOn,
+        }
+    }
+}

@@ -1,49 +1,60 @@
 // What a turn does: what a person is shown, and how it ends.
-use crate::answer::Then;
+use crate::ending::{Then, Wants};
+use crate::exit::Exit;
+use crate::mode::Mode;
+use crate::words::enter;
 use forms::kinds::{Look, Topic};
-use message::{Message, with};
+use message::Message;
+use message::refused::Refused;
 
 #[derive(Clone, Copy)]
 pub enum View {
     Said(Message),
-    // By its number: registers, tlb or printers.
-    Table(u64),
+    Registers,
+    Tlb,
+    Printers,
     Cp0,
     Clocks,
     Station,
     Units(Look),
     // What a printer printed.
-    Paper(u64),
+    Paper { printer: u64 },
     Help(Topic),
     // The line is no command from this place on.
-    Bad(usize),
+    Bad { place: usize },
 }
 
 #[derive(Clone, Copy)]
 pub struct Turn {
-    pub view: View,
+    pub view: Option<View>,
     pub then: Then,
 }
 
 pub fn says(message: Message, then: Then) -> Turn {
     Turn {
-        view: View::Said(message),
+        view: Some(View::Said(message)),
         then,
     }
 }
 
-// A message without values.
-pub fn tells(row: u64, then: Then) -> Turn {
-    says(with(row, 0, 0, 0, 0), then)
+// What was asked for can't be done.
+pub fn refuses(refused: Refused) -> Turn {
+    says(Message::Refused(refused), Then::Refuse(Exit::Refused))
+}
+
+// Something is begun that goes on in the next turn.
+pub fn begins(session: &mut [u64; 32], mode: Mode, wants: Wants) -> Turn {
+    enter(session, mode);
+    quietly(Then::Want(wants))
 }
 
 pub fn quietly(then: Then) -> Turn {
-    tells(message::NOTHING, then)
+    Turn { view: None, then }
 }
 
 pub fn shows(view: View) -> Turn {
     Turn {
-        view,
+        view: Some(view),
         then: Then::Ask,
     }
 }

@@ -1,17 +1,20 @@
 // The words of a session. 0 to 10 are shared with the C side (include/station.h), the others are the session's own.
-pub const IS_THERE: usize = 0;
+// Stays: (a) an array of words, as C lends it to station_panel_turn (include/station.h). Flags, modes and the exit status in it go through the functions below.
+use crate::exit::Exit;
+use crate::mode::Mode;
+use forms::kinds::Span;
 
-pub const ON_TERMINAL: usize = 1;
+// Flags: a word that is 1 where it is so.
+const IS_THERE: usize = 0;
 
-pub const ONE_COMMAND: usize = 2;
+const ON_TERMINAL: usize = 1;
 
-pub const NAME_FROM: usize = 3;
+const ONE_COMMAND: usize = 2;
 
-pub const NAME_TO: usize = 4;
+// A name: where it begins and ends in the line. A second one for `new`.
+const NAME: usize = 3;
 
-pub const SECOND_FROM: usize = 5;
-
-pub const SECOND_TO: usize = 6;
+const SECOND_NAME: usize = 5;
 
 pub const RAM_BYTES: usize = 7;
 
@@ -21,13 +24,12 @@ pub const JOURNAL_BYTES: usize = 9;
 
 pub const INDEX_BYTES: usize = 10;
 
-// What the session is in the middle of: one of the modes below.
-pub const MODE: usize = 11;
+const MODE: usize = 11;
 
 // Of a run: the steps still to run, whether it stops at an exception, and the steps run so far.
 pub const LEFT: usize = 12;
 
-pub const STOP: usize = 13;
+const STOP: usize = 13;
 
 pub const DONE: usize = 14;
 
@@ -42,37 +44,91 @@ pub const DELAY: usize = 17;
 pub const INSTALLED: usize = 18;
 
 // The exit status, once the session ends.
-pub const STATUS: usize = 19;
+const STATUS: usize = 19;
 
-// 1: something has changed since the last save.
-pub const CHANGED: usize = 20;
+// Something has changed since the last save.
+const CHANGED: usize = 20;
 
 // The lines given so far.
 pub const LINES: usize = 21;
 
-// 1: the last save failed, and no line was given since.
-pub const FAILED: usize = 22;
+// The last save failed, and no line was given since.
+const FAILED: usize = 22;
 
 // Of paper: the printer that is shown next, and the one behind the last.
 pub const PRINTER: usize = 23;
 
 pub const LAST_PRINTER: usize = 24;
 
-// Modes. A number that is none of them is taken as IDLE.
-pub const IDLE: u64 = 0;
+pub fn is_there(session: &[u64; 32]) -> bool {
+    session[IS_THERE] == 1
+}
 
-pub const RUNNING: u64 = 1;
+pub fn set_there(session: &mut [u64; 32]) {
+    session[IS_THERE] = 1;
+}
 
-pub const LOADING: u64 = 2;
+// A person sees prompt and progress.
+pub fn is_on_terminal(session: &[u64; 32]) -> bool {
+    session[ON_TERMINAL] == 1
+}
 
-pub const MAKING: u64 = 3;
+// The one line comes from the program's arguments.
+pub fn is_one_command(session: &[u64; 32]) -> bool {
+    session[ONE_COMMAND] == 1
+}
 
-pub const SAVING: u64 = 4;
+// A person types the lines.
+pub fn is_at_prompt(session: &[u64; 32]) -> bool {
+    is_on_terminal(session) && !is_one_command(session)
+}
 
-pub const ENDING: u64 = 5;
+pub fn set_name(session: &mut [u64; 32], name: Span) {
+    session[NAME] = name.from as u64;
+    session[NAME + 1] = name.to as u64;
+}
 
-pub const RESTORING: u64 = 6;
+pub fn set_second_name(session: &mut [u64; 32], name: Span) {
+    session[SECOND_NAME] = name.from as u64;
+    session[SECOND_NAME + 1] = name.to as u64;
+}
 
-pub const COMPARING: u64 = 7;
+pub fn mode(session: &[u64; 32]) -> Mode {
+    Mode::from(session[MODE])
+}
 
-pub const PRINTING: u64 = 8;
+pub fn enter(session: &mut [u64; 32], mode: Mode) {
+    session[MODE] = u64::from(mode);
+}
+
+pub fn stops(session: &[u64; 32]) -> bool {
+    session[STOP] != 0
+}
+
+pub fn set_stops(session: &mut [u64; 32], stops: bool) {
+    session[STOP] = u64::from(stops);
+}
+
+pub fn status(session: &[u64; 32]) -> Exit {
+    Exit::from((session[STATUS] % 256) as u8)
+}
+
+pub fn set_status(session: &mut [u64; 32], status: Exit) {
+    session[STATUS] = u64::from(u8::from(status));
+}
+
+pub fn has_changed(session: &[u64; 32]) -> bool {
+    session[CHANGED] != 0
+}
+
+pub fn set_changed(session: &mut [u64; 32], changed: bool) {
+    session[CHANGED] = u64::from(changed);
+}
+
+pub fn save_failed(session: &[u64; 32]) -> bool {
+    session[FAILED] == 1
+}
+
+pub fn set_save_failed(session: &mut [u64; 32], failed: bool) {
+    session[FAILED] = u64::from(failed);
+}

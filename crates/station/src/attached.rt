@@ -1,8 +1,10 @@
 // One turn of a session with gdb: it is heard what there is to do, the machine does it, and gdb is told what came of it.
 use gdb::hear::hear;
 use gdb::tell::tell;
+use image::lent::Lent;
 use serve::perform;
 
+// Stays: the parameters are those of the C call station_gdb_turn in include/station.h.
 #[unsafe(no_mangle)]
 pub extern "C" fn station_gdb_turn(
     session: &mut [u64; 256],
@@ -21,8 +23,15 @@ pub extern "C" fn station_gdb_turn(
     kept: &mut [u8],
 ) -> u64 {
     let task = hear(session, event, input, packet);
-    let next = perform(
-        task, session, reply, packet, image, execution, bootstrap, ram, paper, journal, index, kept,
-    );
-    tell(session, out, reply, image, task, next)
+    let mut lent = Lent {
+        image,
+        execution,
+        bootstrap,
+        ram,
+        paper,
+        journal,
+        index,
+    };
+    let next = perform(task, session, reply, packet, &mut lent, kept);
+    tell(session, out, reply, lent.image, task, next)
 }

@@ -1,6 +1,9 @@
 // compare: in what another station differs. The C side has loaded it.
-use session::answer::{Then, answer};
+use differ::{Comparison, Station};
+use phrase::lay;
+use session::ending::{Then, answer};
 
+// Stays: the parameters are those of the C call station_compare_turn in include/station.h.
 #[unsafe(no_mangle)]
 pub extern "C" fn station_compare_turn(
     session: &mut [u64; 32],
@@ -14,16 +17,18 @@ pub extern "C" fn station_compare_turn(
     other_paper: &[u8],
     other_journal: &[u8],
 ) -> u64 {
-    let at = differ::stations(
-        out,
+    let here = Station {
         image,
         ram,
         paper,
         journal,
-        other_image,
-        other_ram,
-        other_paper,
-        other_journal,
-    );
+    };
+    let there = Station {
+        image: other_image,
+        ram: other_ram,
+        paper: other_paper,
+        journal: other_journal,
+    };
+    let at = lay(out, 0, Comparison { here, there });
     answer(session, Then::Ask, out, at)
 }

@@ -1,5 +1,8 @@
 // One turn of a session of a technician: the call for C.
+use image::lent::Lent;
+use session::event::Event;
 
+// Stays: the parameters are those of the C call station_panel_turn in include/station.h.
 #[unsafe(no_mangle)]
 pub extern "C" fn station_panel_turn(
     session: &mut [u64; 32],
@@ -14,7 +17,14 @@ pub extern "C" fn station_panel_turn(
     journal: &mut [u8],
     index: &mut [u8],
 ) -> u64 {
-    panel::turn(
-        session, event, input, out, image, execution, bootstrap, ram, paper, journal, index,
-    )
+    let mut lent = Lent {
+        image,
+        execution,
+        bootstrap,
+        ram,
+        paper,
+        journal,
+        index,
+    };
+    panel::turn(session, Event::from(event), input, out, &mut lent)
 }

@@ -1,8 +1,11 @@
-// The words of a session with gdb, what a turn wants next, and what stands at the start of a packet.
+// The words of a session with gdb, what a turn wants next, and the numbers in a packet.
 #![tactic(auto)]
 
-pub mod words; // the words, and what the session is in the middle of
-pub mod packet; // what a packet begins with
+pub mod kinds; // what some of the words number: modes, signals, lines for standard error
+pub mod packet; // the numbers that a packet has
+pub mod words; // the words, and where each stands
+
+use crate::kinds::Signal;
 
 // What came of a packet.
 #[derive(Clone, Copy)]
@@ -12,9 +15,9 @@ pub enum Next {
     // The machine runs; the reply comes when it stops.
     Run,
     // The machine stopped with a signal.
-    Stopped(u64),
+    Stopped(Signal),
     // It stopped before a store to a watched byte, at this address.
-    Watched(u64),
+    Watched(u32),
     // It stands where the journal begins.
     Begins,
     // The station is saved, and then the reply is OK.

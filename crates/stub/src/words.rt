@@ -1,4 +1,5 @@
 // The words of a session with gdb. The first two are shared with the C side (include/station.h), the others are the session's own.
+// Stays: numbers, and flags of 1 and 0, in an array: C lends the session to station_gdb_turn as 256 words.
 
 // How many bytes of the input the turn has used.
 pub const USED: usize = 0;
@@ -6,7 +7,7 @@ pub const USED: usize = 0;
 // How many of the last bytes of the output go to standard error.
 pub const SAID: usize = 1;
 
-// What the session is in the middle of: one of the modes below.
+// What the session is in the middle of: a Mode.
 pub const MODE: usize = 2;
 
 // 1: packets are not acknowledged (QStartNoAckMode).
@@ -26,13 +27,13 @@ pub const INTERRUPTED: usize = 7;
 // 1: something has changed since the last save.
 pub const CHANGED: usize = 8;
 
-// The signal of the last stop.
+// The number of the Signal of the last stop; 0: there was none.
 pub const SIGNAL: usize = 9;
 
 // The length of the last reply, which may be asked for again.
 pub const REPLY: usize = 10;
 
-// A row of the lines for standard error; 0: nothing is to be said.
+// A Line for standard error; 0: nothing is to be said.
 pub const LINE: usize = 11;
 
 // How many breakpoints and watches there are.
@@ -54,30 +55,3 @@ pub const MOST_WATCHES: usize = 16;
 pub const FIRST_BREAK: usize = 96;
 
 pub const MOST_BREAKS: usize = 160;
-
-// Modes. A number that is none of them is taken as IDLE.
-pub const IDLE: u64 = 0;
-
-pub const CONTINUE: u64 = 1;
-
-pub const STEP: u64 = 2;
-
-pub const RANGE: u64 = 3;
-
-pub const DETACHING: u64 = 4;
-
-pub const ENDING: u64 = 5;
-
-// Signals, by gdb's numbers.
-pub const INTERRUPT: u64 = 2;
-
-pub const TRAP: u64 = 5;
-
-pub const BUS: u64 = 10;
-
-// Rows of the lines for standard error.
-pub const EMPTIED: u64 = 1;
-
-pub const TWO_MATCHES: u64 = 2;
-
-pub const REFUSED: u64 = 3;

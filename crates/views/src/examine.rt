@@ -1,31 +1,38 @@
 // x, xp: some units of memory, as the machine sees them now or by their physical address.
+ghost use Rattle.std.specs.Prelude.{◌<◌};
+
 use forms::kinds::{Format, Look, Unit};
-use inquiry::reading::{Read, physical_unit, virtual_unit};
+use image::lent::Lent;
+use inquiry::reading::{Read, Unread, physical_unit, virtual_unit};
+use screen::memory_units;
+use screen::memory_units::{Begins, CUT, Shown};
+use std::fmt;
 
 // The most units that are shown at once.
 const MOST: u64 = 4096;
 
-// How far a look has come: what is laid up to `at`, the next address, its place on the line, and whether it goes on.
 #[derive(Clone, Copy)]
-struct Looked {
-    at: usize,
+pub struct Examined<'a> {
+    pub look: Look,
+    pub lent: &'a Lent<'a>,
+}
+
+// The next unit: its address, and its place on the line.
+#[derive(Clone, Copy)]
+struct Next {
     address: u32,
-    place: u64,
-    goes_on: bool,
+    place: u32,
 }
 
 // Characters are bytes.
 fn unit(look: Look) -> Unit {
-    let format = look.format;
-    match format {
-        Format::Hex => look.unit,
-        Format::Signed => look.unit,
-        Format::Unsigned => look.unit,
+    match look.format {
         Format::Character => Unit::Byte,
+        _ => look.unit,
     }
 }
 
-fn bytes(unit: Unit) -> u64 {
+fn bytes(unit: Unit) -> u32 {
     match unit {
         Unit::Byte => 1,
         Unit::Half => 2,
@@ -33,202 +40,118 @@ fn bytes(unit: Unit) -> u64 {
     }
 }
 
-fn on_line(unit: Unit) -> u64 {
+fn on_line(unit: Unit) -> u32
+    ensures { 0 < result }
+{
     match unit {
-        Unit::Byte => 8,
-        Unit::Half => 8,
+        Unit::Byte | Unit::Half => 8,
         Unit::Word => 4,
     }
 }
 
-fn hex(unit: Unit) -> u64 {
-    match unit {
-        Unit::Byte => screen::memory_units::HEX_BYTE,
-        Unit::Half => screen::memory_units::HEX_HALF,
-        Unit::Word => screen::memory_units::HEX_WORD,
-    }
-}
-
-fn shows(look: Look) -> u64 {
-    let unit = look.unit;
-    let format = look.format;
-    match format {
-        Format::Hex => hex(unit),
-        Format::Signed => screen::memory_units::SIGNED,
-        Format::Unsigned => screen::memory_units::UNSIGNED,
-        Format::Character => screen::memory_units::CHARACTER,
-    }
-}
-
-fn extended(value: u64, least: u64, more: u64) -> u64 {
-    if value < least {
-        return value;
-    }
-    std::num::wrapping_add_u64(value, more)
-}
-
 // The 32 bits of a signed unit.
-fn signed(unit: Unit, value: u64) -> u64 {
+fn signed(unit: Unit, value: u32) -> u32 {
     match unit {
-        Unit::Byte => extended(value, 0x80, 0xFFFF_FF00),
-        Unit::Half => extended(value, 0x8000, 0xFFFF_0000),
-        Unit::Word => value,
+        Unit::Byte if 0x80 <= value => value | 0xFFFF_FF00,
+        Unit::Half if 0x8000 <= value => value | 0xFFFF_0000,
+        _ => value,
     }
 }
 
-fn value_of(look: Look, value: u64) -> u64 {
-    let unit = look.unit;
-    let format = look.format;
-    match format {
-        Format::Hex => value,
-        Format::Signed => signed(unit, value),
-        Format::Unsigned => value,
-        Format::Character => value,
+fn hex(unit: Unit, value: u32) -> Shown {
+    match unit {
+        Unit::Byte => Shown::Byte((value % 0x100) as u8),
+        Unit::Half => Shown::Half((value % 0x1_0000) as u16),
+        Unit::Word => Shown::Word(value),
     }
 }
 
-fn is_open(place: u64) -> u64 {
-    if place == 0 {
-        return 0;
+fn shown(look: Look, value: u32) -> Shown {
+    match look.format {
+        Format::Hex => hex(look.unit, value),
+        Format::Signed => Shown::Signed(signed(look.unit, value)),
+        Format::Unsigned => Shown::Unsigned(value),
+        Format::Character => Shown::Character((value % 0x100) as u8),
     }
-    1
 }
 
 // Behind the last unit of a line the line ends.
-fn next_place(s: Looked, look: Look) -> u64 {
-    let place = s.place % 8 + 1;
-    if place == on_line(unit(look)) {
-        return 0;
+fn behind(look: Look, at: Next) -> Next {
+    let unit = unit(look);
+    Next {
+        address: at.address.wrapping_add(bytes(unit)),
+        place: (at.place % 8 + 1) % on_line(unit),
     }
-    place
 }
 
-fn valued(s: Looked, look: Look, value: u64) -> screen::memory_units::Unit {
-    screen::memory_units::Unit {
-        begins: 1 - is_open(s.place) % 2,
-        address: s.address as u64,
-        shows: shows(look),
-        value: value_of(look, value),
-        ends: 1 - is_open(next_place(s, look)) % 2,
+fn valued(look: Look, at: Next, value: u32) -> memory_units::Unit {
+    memory_units::Unit {
+        begins: if at.place == 0 {
+            Begins::Line
+        } else {
+            Begins::GoesOn
+        },
+        address: at.address,
+        shown: shown(look, value),
+        ends: behind(look, at).place == 0,
     }
 }
 
 // Why nothing can be shown at an address.
-fn told(s: Looked, shows: u64, code: u64) -> screen::memory_units::Unit {
-    screen::memory_units::Unit {
-        begins: 1 + is_open(s.place) % 2,
-        address: s.address as u64,
-        shows,
-        value: code,
-        ends: 0,
-    }
-}
-
-fn shown(s: Looked, look: Look, read: Read) -> screen::memory_units::Unit {
-    match read {
-        Read::Value(value) => valued(s, look, value),
-        Read::Raises(code) => told(s, screen::memory_units::RAISES, code),
-        Read::Device => told(s, screen::memory_units::DEVICE, 0),
-        Read::TwoMatch => told(s, screen::memory_units::TWO_MATCH, 0),
-    }
-}
-
-fn behind(s: Looked, look: Look, at: usize, read: Read) -> Looked {
-    match read {
-        Read::Value(_) => Looked {
-            at,
-            address: std::num::wrapping_add_u32(s.address, (bytes(unit(look)) % 8) as u32),
-            place: next_place(s, look),
-            goes_on: true,
+fn told(at: Next, unread: Unread) -> memory_units::Unit {
+    memory_units::Unit {
+        begins: if at.place == 0 {
+            Begins::Line
+        } else {
+            Begins::Anew
         },
-        _ => Looked {
-            at,
-            address: s.address,
+        address: at.address,
+        shown: match unread {
+            Unread::Raises { code } => Shown::Raises(code),
+            Unread::Device => Shown::Device,
+            Unread::TwoMatch => Shown::TwoMatch,
+        },
+        ends: false,
+    }
+}
+
+impl Examined<'_> {
+    fn read(&self, address: u32) -> Read {
+        let unit = unit(self.look);
+        if self.look.physical {
+            physical_unit(self.lent, unit, address)
+        } else {
+            virtual_unit(self.lent, unit, address)
+        }
+    }
+
+    // All units, up to the first that can't be read. The last line is ended.
+    fn units<W: fmt::Write>(&self, f: &mut fmt::Formatter<W>) -> fmt::Result {
+        let look = self.look;
+        let mut at = Next {
+            address: (look.address % 0x1_0000_0000) as u32,
             place: 0,
-            goes_on: false,
-        },
+        };
+        for _ in 0..look.count.min(MOST) {
+            match self.read(at.address) {
+                Ok(value) => write!(f, "{}", valued(look, at, value))?,
+                Err(unread) => return write!(f, "{}", told(at, unread)),
+            }
+            at = behind(look, at);
+        }
+        if at.place == 0 {
+            return Ok(());
+        }
+        f.write_str("\n")
     }
 }
 
-fn read(
-    look: Look,
-    image: &[u8],
-    execution: &[u8],
-    bootstrap: &[u8],
-    ram: &[u8],
-    address: u32,
-) -> Read {
-    let unit = unit(look);
-    if look.physical {
-        return physical_unit(execution, bootstrap, ram, unit, address);
+impl fmt::Display for Examined<'_> {
+    fn fmt<W: fmt::Write>(&self, f: &mut fmt::Formatter<W>) -> fmt::Result {
+        self.units(f)?;
+        if self.look.count <= MOST {
+            return Ok(());
+        }
+        f.write_str(CUT)
     }
-    virtual_unit(image, execution, bootstrap, ram, unit, address)
-}
-
-fn next(out: &mut [u8], s: Looked, look: Look, read: Read) -> Looked {
-    let at = screen::memory_units::show(out, s.at, shown(s, look, read));
-    behind(s, look, at, read)
-}
-
-fn one(
-    out: &mut [u8],
-    s: Looked,
-    look: Look,
-    image: &[u8],
-    execution: &[u8],
-    bootstrap: &[u8],
-    ram: &[u8],
-) -> Looked {
-    if !s.goes_on {
-        return s;
-    }
-    let read = read(look, image, execution, bootstrap, ram, s.address);
-    next(out, s, look, read)
-}
-
-fn all(
-    out: &mut [u8],
-    count: u64,
-    look: Look,
-    image: &[u8],
-    execution: &[u8],
-    bootstrap: &[u8],
-    ram: &[u8],
-) -> usize {
-    let mut s = Looked {
-        at: 0,
-        address: (look.address % 0x1_0000_0000) as u32,
-        place: 0,
-        goes_on: true,
-    };
-    for _k in 0..count {
-        s = one(out, s, look, image, execution, bootstrap, ram);
-    }
-    screen::memory_units::end(out, s.at, is_open(s.place))
-}
-
-fn count(look: Look) -> u64 {
-    if MOST < look.count {
-        return MOST;
-    }
-    look.count
-}
-
-fn is_cut(look: Look) -> u64 {
-    if MOST < look.count {
-        return 1;
-    }
-    0
-}
-
-pub fn examine(
-    out: &mut [u8],
-    look: Look,
-    image: &[u8],
-    execution: &[u8],
-    bootstrap: &[u8],
-    ram: &[u8],
-) -> usize {
-    let at = all(out, count(look), look, image, execution, bootstrap, ram);
-    screen::memory_units::cut(out, at, is_cut(look))
 }

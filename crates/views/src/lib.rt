@@ -4,32 +4,51 @@
 mod paper; // paper
 mod examine; // x, xp
 
+use crate::examine::Examined;
+use image::lent::Lent;
+use manual::Help;
 use message::say;
-use screen::sizes::Lengths;
-use screen::{bad, clocks, sizes, tables};
+use phrase::lay;
+use screen::bad::Misfit;
+use screen::clocks::Clocks;
+use screen::cp0_words::Cp0;
+use screen::sizes::{Lengths, Sizes};
+use screen::tables::{Printers, Registers, Tlb};
 use session::turn::View;
 
+fn sizes<'a>(lent: &'a Lent) -> Sizes<'a> {
+    Sizes {
+        image: lent.image,
+        lengths: Lengths {
+            execution: lent.execution.len(),
+            bootstrap: lent.bootstrap.len(),
+            ram: lent.ram.len(),
+            paper: lent.paper.len(),
+            journal: lent.journal.len(),
+        },
+    }
+}
+
+fn printers<'a>(lent: &'a Lent) -> Printers<'a> {
+    Printers {
+        image: lent.image,
+        eighth: lent.paper.len() / 8,
+    }
+}
+
 // `line` is what was typed. Answers the place in `out` behind what is shown.
-pub fn show(
-    view: View,
-    line: &[u8],
-    out: &mut [u8],
-    image: &[u8],
-    execution: &[u8],
-    bootstrap: &[u8],
-    ram: &[u8],
-    paper: &[u8],
-    lengths: Lengths,
-) -> usize {
+pub fn show(view: View, line: &[u8], out: &mut [u8], lent: &Lent) -> usize {
     match view {
-        View::Said(message) => say(out, 0, image, message),
-        View::Table(table) => tables::show(out, 0, image, table, lengths.paper as u64 / 8),
-        View::Cp0 => screen::cp0_words::show(out, 0, image),
-        View::Clocks => clocks::show(out, 0, image),
-        View::Station => sizes::show(out, 0, image, lengths),
-        View::Units(look) => examine::examine(out, look, image, execution, bootstrap, ram),
-        View::Paper(n) => paper::show(out, image, paper, n),
-        View::Help(topic) => manual::show(out, 0, topic),
-        View::Bad(place) => bad::show(out, 0, line, place),
+        View::Said(message) => say(out, lent.image, message),
+        View::Registers => lay(out, 0, Registers(lent.image)),
+        View::Tlb => lay(out, 0, Tlb(lent.image)),
+        View::Printers => lay(out, 0, printers(lent)),
+        View::Cp0 => lay(out, 0, Cp0(lent.image)),
+        View::Clocks => lay(out, 0, Clocks(lent.image)),
+        View::Station => lay(out, 0, sizes(lent)),
+        View::Units(look) => lay(out, 0, Examined { look, lent }),
+        View::Paper { printer } => paper::show(out, lent, printer),
+        View::Help(topic) => lay(out, 0, Help(topic)),
+        View::Bad { place } => lay(out, 0, Misfit { line, place }),
     }
 }

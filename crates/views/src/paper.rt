@@ -1,46 +1,23 @@
 // paper: what a printer printed.
-use text::smaller;
+use image::lent::Lent;
+use phrase::lay;
+use screen::paper::Paper;
 
-fn part(out: &mut [u8], paper: &[u8], n: u64, from: usize, count: usize) -> usize {
-    if paper.len() < from {
-        return 0;
-    }
-    if paper.len() - from < count {
-        return 0;
-    }
-    let to = from + count;
-    screen::paper::show(out, 0, n, &paper[from..to])
+// What printer n printed: its eighth of the paper, up to its count. Nothing of one that is not installed.
+fn printed<'a>(lent: &'a Lent, n: usize) -> Option<&'a [u8]> {
+    let words = image::printer(lent.image, n)?;
+    let eighth = lent.paper.len() / 8;
+    // Paper that has a length that is allowed has eighths of at most 8,192 bytes.
+    let from = n % 8 * (eighth % 8193);
+    lent.paper
+        .get(from..)?
+        .get(..eighth.min(words.printed as usize))
 }
 
-// Where the eighth of printer n begins, of paper that has a length that is allowed.
-fn start(eighth: usize, n: usize) -> usize {
-    let eighth = eighth % 8193;
-    match n {
-        0 => 0,
-        1 => eighth,
-        2 => 2 * eighth,
-        3 => 3 * eighth,
-        4 => 4 * eighth,
-        5 => 5 * eighth,
-        6 => 6 * eighth,
-        _ => 7 * eighth,
+pub fn show(out: &mut [u8], lent: &Lent, printer: u64) -> usize {
+    let printer = (printer % 8) as usize;
+    match printed(lent, printer) {
+        Some(printed) => lay(out, 0, Paper { printer, printed }),
+        None => 0,
     }
-}
-
-fn installed(image: &[u8], n: usize) -> bool {
-    image::bit(image::word(image, image::INSTALLED), n) == 1
-}
-
-// The printer's eighth of the paper, up to its count; nothing of one that is not installed.
-pub fn show(out: &mut [u8], image: &[u8], paper: &[u8], printer: u64) -> usize {
-    let n = (printer % 8) as usize;
-    if !installed(image, n) {
-        return 0;
-    }
-    let eighth = paper.len() / 8;
-    let count = smaller(
-        eighth,
-        image::word(image, n * 5 + image::PRINTERS + 4) as usize,
-    );
-    part(out, paper, n as u64, start(eighth, n), count)
 }

@@ -1,40 +1,34 @@
 // new: whether a station can be made, before its files are there.
-use answer::refused;
+use answer::Refusal;
 use forms::kinds::Fresh;
+use message::refused::Refused;
 use session::work::Worked;
 use state::IMAGE;
 
-// What reset says of the three parameters.
-fn ranges(scale: u64, delay: u64, installed: u64) -> u64 {
-    let mut image = [0u8; IMAGE];
-    let mut index = [0u8; 16];
-    refused(reset::reset(&mut image, &mut index, scale, delay, installed))
-}
-
-// Rows 1, 3, 4 and 6 of document 01's numbers; 0 where nothing is refused.
-fn number(fresh: Fresh) -> u64 {
-    if fresh.ram < 1 {
-        return 1;
+// Rows 1, 3, 4 and 6 of document 01's numbers.
+fn allowed(fresh: Fresh) -> Result<(), Refusal> {
+    if !matches!(fresh.ram, 1..=4096) {
+        return Err(Refusal::Ram);
     }
-    if 4096 < fresh.ram {
-        return 1;
-    }
-    if 65536 < fresh.paper {
-        return 3;
-    }
-    if fresh.paper % 8 != 0 {
-        return 3;
+    if 65536 < fresh.paper || fresh.paper % 8 != 0 {
+        return Err(Refusal::Paper);
     }
     if 32768 < fresh.journal {
-        return 4;
+        return Err(Refusal::Journal);
     }
-    ranges(fresh.scale, fresh.delay, fresh.printers)
+    let mut image = [0; IMAGE];
+    let mut index = [0; 16];
+    reset::reset(
+        &mut image,
+        &mut index,
+        fresh.scale,
+        fresh.delay,
+        fresh.printers,
+    )?;
+    Ok(())
 }
 
-pub fn judged(fresh: Fresh) -> Worked {
-    let number = number(fresh);
-    if number != 0 {
-        return Worked::Refused(number);
-    }
-    Worked::Accepted(fresh)
+pub fn judged(fresh: Fresh) -> Result<Worked, Refused> {
+    allowed(fresh)?;
+    Ok(Worked::Accepted(fresh))
 }

@@ -3,35 +3,22 @@
 
 mod judge; // new: whether a station can be made
 mod load; // load
-mod taken_back; // back, reverse-stepi
 
 use crate::judge::judged;
-use crate::taken_back::back;
+use crate::load::load;
 use blame::blame;
-use running::run;
+use image::lent::Lent;
+use message::refused::Refused;
+use running::{back, make, run};
 use session::work::{Work, Worked};
 
-pub fn perform(
-    work: Work,
-    file: &[u8],
-    image: &mut [u8],
-    execution: &[u8],
-    bootstrap: &[u8],
-    ram: &mut [u8],
-    paper: &mut [u8],
-    journal: &mut [u8],
-    index: &mut [u8],
-) -> Worked {
+pub fn perform(work: Work, file: &[u8], lent: &mut Lent) -> Result<Worked, Refused> {
     match work {
-        Work::Nothing => Worked::Nothing,
         Work::Judge(fresh) => judged(fresh),
-        Work::Load(address) => load::load(file, image, ram, index, address),
-        Work::Back(steps) => back(image, ram, paper, journal, index, steps),
-        Work::Blame(asked) => blame(
-            image, execution, bootstrap, ram, paper, journal, index, asked,
-        ),
-        _ => run(
-            image, execution, bootstrap, ram, paper, journal, index, work,
-        ),
+        Work::Make(settings) => make(lent, settings),
+        Work::Load { address } => load(file, lent, address),
+        Work::Run { steps, stops } => run(lent, steps, stops),
+        Work::Back { steps } => back(lent, steps),
+        Work::Blame(asked) => blame(lent, asked),
     }
 }

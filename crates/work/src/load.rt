@@ -1,52 +1,40 @@
 // load: a file's bytes are put into RAM. What the host writes is no step, so the journal is emptied, and with it the index.
+use answer::Refusal;
+use image::lent::Lent;
+use message::refused::Refused;
 use reset::empty;
 use session::work::Worked;
 use state::IMAGE;
 use text::put;
 
+// Where RAM begins.
+const RAM: u64 = 0x2000_0000;
+
 // Where the words steps on hand and next slot stand in the image.
 const JOURNAL: usize = 493;
 
-// Whether `len` bytes fit whole in RAM at a physical address.
-fn fits(address: u64, len: usize, ram: usize) -> bool {
-    if address < 0x2000_0000 {
-        return false;
+// The place in RAM of a physical address from which `len` bytes fit whole.
+fn place(address: u64, len: usize, ram: usize) -> Option<usize> {
+    let place = address.checked_sub(RAM)? as usize;
+    if ram.checked_sub(place)? < len {
+        return None;
     }
-    let place = address - 0x2000_0000;
-    if (ram as u64) < place {
-        return false;
-    }
-    len as u64 <= ram as u64 - place
+    Some(place)
 }
 
-// An address outside RAM is met by `fits`.
-fn place(address: u64) -> usize {
-    if address < 0x2000_0000 {
-        return 0;
+pub fn load(file: &[u8], lent: &mut Lent, address: u64) -> Result<Worked, Refused> {
+    if lent.image.len() != IMAGE {
+        return Err(Refused::Call(Refusal::Image));
     }
-    (address - 0x2000_0000) as usize
-}
-
-fn laid(file: &[u8], image: &mut [u8], ram: &mut [u8], index: &mut [u8], address: u64) -> Worked {
-    let zeros = [0u8; 8];
-    put(ram, place(address), file);
-    put(image, JOURNAL, &zeros);
-    empty(index);
-    Worked::Loaded(file.len() as u64, address)
-}
-
-pub fn load(
-    file: &[u8],
-    image: &mut [u8],
-    ram: &mut [u8],
-    index: &mut [u8],
-    address: u64,
-) -> Worked {
-    if image.len() != IMAGE {
-        return Worked::Refused(5);
-    }
-    if !fits(address, file.len(), ram.len()) {
-        return Worked::NoRoom(ram.len() as u64);
-    }
-    laid(file, image, ram, index, address)
+    let ram = lent.ram.len();
+    let Some(place) = place(address, file.len(), ram) else {
+        return Err(Refused::NoRoom { ram: ram as u64 });
+    };
+    put(lent.ram, place, file);
+    put(lent.image, JOURNAL, &[0; 8]);
+    empty(lent.index);
+    Ok(Worked::Loaded {
+        bytes: file.len() as u64,
+        address,
+    })
 }

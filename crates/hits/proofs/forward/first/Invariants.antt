@@ -1,9 +1,0 @@
--- Safe and ending: each step of the piece once.
-use Rattle.std.proofs.Common.{◌≤◌}
-use Rattle.hits.proofs.forward.first.Given as goal
-
-abbrev pub invariant-loop-k : goal.invariant-loop-k
-invariant-loop-k l = 0 ≤ l.k
-
-abbrev pub decreases-loop-k : goal.decreases-loop-k
-decreases-loop-k l = l.k

@@ -1,9 +1,0 @@
--- Safe and ending: each watch once.
-use Rattle.std.proofs.Common.{◌-◌, ◌≤◌}
-use Rattle.hits.proofs.watched.change.Given as goal
-
-abbrev pub invariant-loop-i : goal.invariant-loop-i
-invariant-loop-i l = l.i ≤ 16
-
-abbrev pub decreases-loop-i : goal.decreases-loop-i
-decreases-loop-i l = 16 - l.i
