@@ -4,7 +4,7 @@ use mathlib.Core.Bool.{Bool, true, false, cond, ◌&&◌, ◌||◌, not}
 use mathlib.Core.List.{List}
 use Prim.Native.Nat.{ℕ, ◌+◌, ◌*◌, ◌-◌, ◌/◌, ◌%◌, ◌≤◌, ◌<◌}
 use native.Mathlib.Omega.{arith}
-use lib.Dec.{eqb, leb, ltb}
+use lib.Dec.{eqb, leb}
 use lib.ListN.{get_or}
 use borrow.Author.Tests.{leb-true, ltb-true, eqb-true, le-leb, lt-ltb}
 use Rattle.std.specs.Prelude.{Option, Some, None, Ok}
@@ -26,6 +26,7 @@ use Rattle.reach.specs.Check.{aligned_of, allowed_of}
 use Rattle.reach.specs.Translate.{sought_of, by_row, translated_of}
 use Rattle.reach.specs.Reach.{reach_of}
 use Rattle.reach.specs.declared.access.Kind.{Kind}
+use Rattle.reach.specs.declared.access.Kind.TheVariants.{Store}
 use Rattle.reach.specs.declared.access.Width.{Width}
 use Rattle.pages.specs.Pages.{key_of, in_ram, single_in, is_open, frame_of, page_in, is_near, near_of, Kept, Told}
 use Rattle.pages.specs.declared.Page.{Page}
@@ -128,6 +129,17 @@ page_kept key t ram {page} h =
     let same : page.key ≡ key = ap (λ (p : Page). p.key) (paged key page t ram h).is in
     subst (λ (k : ℕ). pages.page_of k t ram ≡ Some page) (sym same) h
 
+-- the EntryLo of a key's single match in the table; 0 is none
+abbrev low_in : Option ℕ → ℕ
+low_in (Some low) = low
+low_in None = 0
+
+abbrev pub entry_of : ℕ → List Row → ℕ
+entry_of key t = low_in (single_in (found_in key t) t)
+
+paged_entry : {key : ℕ} {page : Page} {t : List Row} {ram : ℕ} (p : Paged key page t ram) → entry_of key t ≡ (get_or t p.at no_row).low
+paged_entry {key} {page} {t} {ram} p = let within = (found_lowest (matches_of key) t p.at false p.found).within in rw (p.found, read_row t p.at within)
+
 -- ---- what it answers
 
 pub record Near (known : ℕ) (width : Width) (status entry a : ℕ) : Type 0 where
@@ -190,8 +202,8 @@ module _ (status entry a : ℕ) (vm : bit 24 status ≡ true) (free : is_open (k
           rw (e, vm) (le-leb 0x80000000 a (omega (arith, above, page)))
 
 -- a store only where D is on
-abbrev pub MayReach : Kind → Bool → Type 0
-MayReach kind dirty = (is_store kind && not dirty) ≡ false
+abbrev pub MayReach : Kind → ℕ → Type 0
+MayReach kind low = (is_store kind && not (bit 10 low)) ≡ false
 
 spanned : (low a ram : ℕ) → InRam low ram → spans ram_base ram (low / 4096 * 4096 + a % 4096) ≡ true
 spanned low a ram r =
@@ -203,7 +215,7 @@ placed : (low a ram : ℕ) → InRam low ram → low / 4096 * 4096 + a % 4096 - 
 placed low a ram r = let above = r.above in omega (arith, above)
 
 module _ (kind : Kind) (width : Width) (sizes : Sizes) (t : List Row) (status entry a : ℕ) (page : Page) (p : Paged (key_of status entry a) page t sizes.ram)
-    (vm : bit 24 status ≡ true) (aligned : aligned_of width a ≡ true) (may : MayReach kind (bit 10 (get_or t p.at no_row).low)) where
+    (vm : bit 24 status ≡ true) (aligned : aligned_of width a ≡ true) (may : MayReach kind (get_or t p.at no_row).low) where
   paged_reach : reach_of (mode_of status) (record { kind = kind; width = width }) sizes a t entry ≡ Ok (Ram (frame_of (get_or t p.at no_row).low + a % 4096))
   unfolding reach_of translated_of by_row mapped_of
   paged_reach =
@@ -212,14 +224,21 @@ module _ (kind : Kind) (width : Width) (sizes : Sizes) (t : List Row) (status en
 
 -- the sentence of L9: near the page that is remembered, the answer is the one that the plain search gives
 pub near_reach : (kind : Kind) (width : Width) (sizes : Sizes) (t : List Row) (page : Page) (status entry a : ℕ) → is_near page.key width status entry a ≡ true →
-    Kept page t sizes.ram → MayReach kind page.dirty →
+    Kept page t sizes.ram → MayReach kind (entry_of page.key t) →
     reach_of (mode_of status) (record { kind = kind; width = width }) sizes a t entry ≡ Ok (Ram (page.frame + a % 4096))
 near_reach kind width sizes t page status entry a h k may =
     let hit = hit page.key width status entry a h in
     let p = paged (key_of status entry a) page t sizes.ram (subst (λ (x : ℕ). pages.page_of x t sizes.ram ≡ Some page) hit.same k) in
     let frame : page.frame ≡ frame_of (get_or t p.at no_row).low = ap (λ (x : Page). x.frame) p.is in
-    let dirty : page.dirty ≡ bit 10 (get_or t p.at no_row).low = ap (λ (x : Page). x.dirty) p.is in
-    rw frame (paged_reach kind width sizes t status entry a page p hit.vm hit.aligned (rw dirty at may))
+    let may' = rw (hit.same, paged_entry p) at may in
+    rw frame (paged_reach kind width sizes t status entry a page p hit.vm hit.aligned may')
+
+-- D, as it is remembered, is that of the table's own entry
+pub may_store : (t : List Row) (ram : ℕ) (page : Page) → Kept page t ram → page.dirty ≡ true → MayReach Store (entry_of page.key t)
+may_store t ram page k on =
+    let p = paged page.key page t ram k in
+    let dirty : bit 10 (get_or t p.at no_row).low ≡ true = sym (ap (λ (x : Page). x.dirty) p.is) ∙ on in
+    rw (paged_entry p, dirty)
 
 -- what is told of the page of an access that is near it
 pub record NearPage (page : Page) (width : Width) (status entry a : ℕ) (t : List Row) (ram : ℕ) : Type 0 where

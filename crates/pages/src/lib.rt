@@ -109,7 +109,6 @@ fn remember(known: Option<Page>, key: u32, rows: [Row; 16], ram: u32) -> Option<
     lookup(key, rows, ram).or(known)
 }
 
-#[tactic(auto, unfolding(crate::specs::Pages::is_near))]
 fn is_near(known: u32, width: Width, status: u32, entry: u32, a: u32) -> bool
     ensures { result ≡ is_near known width status entry a }
 {

@@ -53,7 +53,6 @@ pub fn landed(access: Access, sizes: Sizes, to: Result<u32, Fault>) -> Reached
 }
 
 // Request L5: whether the access meets two matches. Alignment and privilege come first, and then no search is made.
-#[tactic(auto, unfolding(crate::specs::Reach::meets_two))]
 pub fn meets_two(mode: Mode, access: Access, a: u32, rows: [Row; 16], entry: u32) -> bool
     ensures { result ≡ meets_two mode access a rows entry }
 {

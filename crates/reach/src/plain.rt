@@ -8,7 +8,6 @@ use board::places::RAM;
 use word::map::has_bit;
 
 // `ram` is RAM's length in bytes.
-#[tactic(auto, unfolding(crate::specs::Plain::plain_of))]
 pub fn plain(status: u32, width: Width, ram: u32, va: u32) -> bool
     ensures { result ≡ plain_of status width ram va }
 {
