@@ -74,7 +74,6 @@ fn by_fetched(fetched: Result<u32, Fault>, cp0: Cp0, regs: &[u32; 32], rows: [Ro
 }
 
 // `core` is as the tick will leave it.
-#[tactic(auto, unfolding(crate::specs::Meets::meets_two_of))]
 pub fn meets_two(
     core: Core,
     regs: &[u32; 32],

@@ -9,6 +9,7 @@ use lib.ListN.{get_or}
 use borrow.Author.Tests.{leb-true, ltb-true, eqb-true, le-leb, lt-ltb}
 use Rattle.std.specs.Prelude.{Option, Some, None, Ok}
 use Rattle.std.proofs.lemmas.Option.{none-some, cond_some}
+use Rattle.std.proofs.lemmas.Bool.{false≢true}
 use Rattle.word.specs.Map.{bit}
 use Rattle.word.proofs.Cond.{both, and_true}
 use Rattle.board.specs.Places.{ram_base, spans, mapped_of}
@@ -28,7 +29,7 @@ use Rattle.reach.specs.Reach.{reach_of}
 use Rattle.reach.specs.declared.access.Kind.{Kind}
 use Rattle.reach.specs.declared.access.Kind.TheVariants.{Store}
 use Rattle.reach.specs.declared.access.Width.{Width}
-use Rattle.pages.specs.Pages.{key_of, in_ram, single_in, is_open, frame_of, page_in, is_near, near_of, Kept, Told}
+use Rattle.pages.specs.Pages.{key_of, in_ram, single_in, is_open, frame_of, page_in, is_near, near_of, dirty_of, Kept, Told}
 use Rattle.pages.specs.declared.Page.{Page}
 use Rattle.pages.specs.Pages as pages
 
@@ -223,22 +224,26 @@ module _ (kind : Kind) (width : Width) (sizes : Sizes) (t : List Row) (status en
       rw (aligned, allowed status entry a vm p.free, vm, high status entry a vm p.free, found_key status entry a t, p.found, p.held.valid, may, spanned low a sizes.ram p.held, placed low a sizes.ram p.held)
 
 -- the sentence of L9: near the page that is remembered, the answer is the one that the plain search gives
-pub near_reach : (kind : Kind) (width : Width) (sizes : Sizes) (t : List Row) (page : Page) (status entry a : ℕ) → is_near page.key width status entry a ≡ true →
-    Kept page t sizes.ram → MayReach kind (entry_of page.key t) →
-    reach_of (mode_of status) (record { kind = kind; width = width }) sizes a t entry ≡ Ok (Ram (page.frame + a % 4096))
-near_reach kind width sizes t page status entry a h k may =
-    let hit = hit page.key width status entry a h in
-    let p = paged (key_of status entry a) page t sizes.ram (subst (λ (x : ℕ). pages.page_of x t sizes.ram ≡ Some page) hit.same k) in
-    let frame : page.frame ≡ frame_of (get_or t p.at no_row).low = ap (λ (x : Page). x.frame) p.is in
+pub near_reach : (kind : Kind) (width : Width) (sizes : Sizes) (t : List Row) (known frame status entry a : ℕ) {page : Page} → is_near known width status entry a ≡ true →
+    pages.page_of known t sizes.ram ≡ Some page → frame ≡ page.frame → MayReach kind (entry_of known t) →
+    reach_of (mode_of status) (record { kind = kind; width = width }) sizes a t entry ≡ Ok (Ram (frame + a % 4096))
+near_reach kind width sizes t known frame status e a {page} h k same may =
+    let hit = hit known width status e a h in
+    let p = paged (key_of status e a) page t sizes.ram (subst (λ (x : ℕ). pages.page_of x t sizes.ram ≡ Some page) hit.same k) in
+    let place : frame ≡ frame_of (get_or t p.at no_row).low = same ∙ ap (λ (x : Page). x.frame) p.is in
     let may' = rw (hit.same, paged_entry p) at may in
-    rw frame (paged_reach kind width sizes t status entry a page p hit.vm hit.aligned may')
+    rw place (paged_reach kind width sizes t status e a page p hit.vm hit.aligned may')
 
 -- D, as it is remembered, is that of the table's own entry
-pub may_store : (t : List Row) (ram : ℕ) (page : Page) → Kept page t ram → page.dirty ≡ true → MayReach Store (entry_of page.key t)
-may_store t ram page k on =
-    let p = paged page.key page t ram k in
-    let dirty : bit 10 (get_or t p.at no_row).low ≡ true = sym (ap (λ (x : Page). x.dirty) p.is) ∙ on in
-    rw (paged_entry p, dirty)
+pub may_store : (t : List Row) (ram known : ℕ) (dirty : Bool) → dirty ≡ dirty_of (pages.page_of known t ram) → dirty ≡ true → MayReach Store (entry_of known t)
+may_store t ram known dirty is on = go (pages.page_of known t ram) refl (sym is ∙ on)
+  where
+    go : (made : Option Page) → pages.page_of known t ram ≡ made → dirty_of made ≡ true → MayReach Store (entry_of known t)
+    go (Some page) e told =
+        let p = paged known page t ram e in
+        let entry : bit 10 (get_or t p.at no_row).low ≡ true = sym (ap (λ (x : Page). x.dirty) p.is) ∙ told in
+        rw (paged_entry p, entry)
+    go None e told = absurd (false≢true told)
 
 -- what is told of the page of an access that is near it
 pub record NearPage (page : Page) (width : Width) (status entry a : ℕ) (t : List Row) (ram : ℕ) : Type 0 where

@@ -1,6 +1,6 @@
 -- Document 02, L9: "You may remember the last page translated, if the answer is the same as the plain search for every table and address." What a page is remembered by,
 -- which pages are, and when what is remembered is true of a table. Law `near-reach` is the sentence.
-use Rattle.std.specs.Prelude.{◌≡◌, Bool, cond, ◌&&◌, ◌||◌, not, List, ℕ, ◌+◌, ◌*◌, ◌-◌, ◌/◌, ◌%◌, ◌^◌, ◌≤◌, eqb, leb, ltb, Option, Some, None}
+use Rattle.std.specs.Prelude.{◌≡◌, Bool, false, cond, ◌&&◌, ◌||◌, not, List, ℕ, ◌+◌, ◌*◌, ◌-◌, ◌/◌, ◌%◌, ◌^◌, ◌≤◌, eqb, leb, ltb, Option, Some, None}
 use Rattle.word.specs.Map.{bit}
 use Rattle.board.specs.Places.{ram_base}
 use Rattle.tlb.specs.Entry.{read_at}
@@ -42,6 +42,11 @@ page_in key ram None = None
 -- what a key's page is remembered as, if at all
 unfoldable pub page_of : ℕ → List Row → ℕ → Option Page
 page_of key t ram = cond (is_open key) (page_in key ram (single_in (found_in key t) t)) None
+
+-- D, as a page is remembered; where none is, it is off
+abbrev pub dirty_of : Option Page → Bool
+dirty_of (Some page) = page.dirty
+dirty_of None = false
 
 -- an access to the page that `known` is the key of: translated, and aligned
 unfoldable pub is_near : ℕ → Width → ℕ → ℕ → ℕ → Bool

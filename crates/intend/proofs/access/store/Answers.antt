@@ -1,9 +1,10 @@
 -- `intend::access::store` meets its contract: the address, then its answer, which a plain access has without the table (`plain_lands`), and one near the page that is remembered
 -- from that page, where D is on (`near_lands`, `may_store`).
-use Rattle.std.proofs.Common.{sym, ◌∙◌, arith}
+use Rattle.std.proofs.Common.{sym, ap, ◌∙◌, arith}
 use Rattle.reach.proofs.PlainLands.{is_plain}
 use Rattle.reach.specs.declared.access.Kind.TheVariants as kind
-use Rattle.pages.proofs.Lands.{MayReach, near_page, kept_inside}
+use Rattle.pages.specs.Pages.{dirty_of}
+use Rattle.pages.proofs.Lands.{MayReach, entry_of, near_page, kept_inside, may_store}
 use Rattle.intend.proofs.Plain.{plain_lands}
 use Rattle.intend.proofs.NearLands.{near_lands}
 use Rattle.intend.proofs.access.store.Goals as goal
@@ -31,7 +32,7 @@ place-requires c =
 pub returns-in-Some : goal.returns-in-Some
 returns-in-Some c =
     let told = near_page _ _ _ _ _ (sym c.near.ensures ∙ c.in-Some.is) c.requires.known.accesses in
-    let dirty : MayReach kind.Store c.in-Some.page.dirty = rw c.if-page.true in
+    let dirty : MayReach kind.Store (entry_of c.in-Some.page.key c.args.rows) = may_store c.args.rows c.args.sizes.ram _ _ (sym (ap dirty_of told.kept)) c.if-page.true in
     rw (
       ← c.reg.ensures,
       ← c.addiu-va.ensures,
