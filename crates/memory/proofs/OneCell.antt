@@ -9,7 +9,7 @@ use lib.Seq.{length-take-le, get_or-take, get_or-drop}
 use Rattle.word.specs.Lists.{Below}
 use Rattle.word.specs.Little.{from_bytes, to_bytes}
 use Rattle.word.proofs.Lists.{below_nil, below_cons}
-use Rattle.word.proofs.LittleBytes.{from_to, to_from}
+use Rattle.word.proofs.LittleBytes.{length_to, from_to, to_from}
 use Rattle.memory.specs.Memory.{load_at}
 
 -- what is written are bytes
@@ -17,6 +17,13 @@ pub to_below : (n x : ℕ) → Below 256 (to_bytes n x)
 unfolding to_bytes
 to_below zero x = below_nil 256
 to_below (suc n) x = below_cons (to_bytes n (x / 256)) (mod-lt x (omega arith)) (to_below n (x / 256))
+
+-- the bytes of a number do not see what lies above them
+pub to_mod : (n x : ℕ) → to_bytes n (x % 256 ^ n) ≡ to_bytes n x
+to_mod n x =
+    ap (to_bytes n) (sym (from_to n x))
+    ∙ ap (λ k. to_bytes k (from_bytes (to_bytes n x))) (sym (length_to n x))
+    ∙ to_from (to_bytes n x) (to_below n x)
 
 module _ (n : ℕ) (m : List ℕ) (at : ℕ) (fits : at + n ≤ length m) (bytes : Below 256 m) where
   abbrev pub cell : List ℕ

@@ -1,4 +1,4 @@
-// Little-endian bytes, halves and words of a lent slice.
+// Little-endian bytes, halves and words of a lent slice. Each width is stored as two of the half of it.
 #![tactic(auto)]
 
 pub mod words; // a list of words
@@ -39,17 +39,14 @@ pub fn store_half(m: &mut [u8], at: usize, x: u16)
     ensures { m.new ≡ stored_at 2 m.old at x }
 {
     let [low, high] = x.to_le_bytes();
-    m[at] = low;
-    m[at + 1] = high;
+    store_byte(m, at, low);
+    store_byte(m, at + 1, high);
 }
 
 pub fn store_word(m: &mut [u8], at: usize, x: u32)
     requires { at + 4 ≤ length m.old }
     ensures { m.new ≡ stored_at 4 m.old at x }
 {
-    let [first, second, third, last] = x.to_le_bytes();
-    m[at] = first;
-    m[at + 1] = second;
-    m[at + 2] = third;
-    m[at + 3] = last;
+    store_half(m, at, (x % 65536) as u16);
+    store_half(m, at + 2, (x / 65536) as u16);
 }
