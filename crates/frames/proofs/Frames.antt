@@ -5,7 +5,7 @@ use native.Mathlib.Decide.{ℕ_discrete}
 use Rattle.frames.specs.OnHand.{Touch, changes}
 use Rattle.frames.specs.Afresh.{Index}
 use Rattle.frames.specs.Keep.{Kept, with, is_at, replace, replace_all, mark, mark_all}
-use Rattle.std.proofs.Common.{Option, Some, None}
+use Rattle.std.proofs.Common.{Option, Some}
 
 -- of every place that a record keeps
 abbrev pub Each : (Kept → Type 0) → List Kept → Type 0
