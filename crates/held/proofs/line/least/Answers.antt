@@ -1,5 +1,5 @@
 -- `held::line::least` meets its contract: each way out has the tests that led there.
-use Prim.Native.Nat.{ℕ, ◌<◌, min}
+use Prim.Native.Nat.{ℕ, ◌<◌, min, max}
 use mathlib.Core.Path.{◌≡◌, ◌∙◌}
 use mathlib.Core.Bool.{cond}
 use native.Mathlib.Decide.{dec_le}
@@ -15,6 +15,14 @@ min_told a b =
     elim (dec_le a b) [
       | yes le ↦ rw (le-leb a b le) (omega arith)
       | no more ↦ let lt : b < a = omega arith in rw (lt-leb a b lt) (omega arith)
+    ]
+
+-- the greater of two, by the test: what must-fail/waits_too_long.edit takes in its place
+max_told : (a b : ℕ) → max a b ≡ cond (leb b a) a b
+max_told a b =
+    elim (dec_le b a) [
+      | yes le ↦ rw (le-leb b a le) (omega arith)
+      | no more ↦ let lt : a < b = omega arith in rw (lt-leb b a lt) (omega arith)
     ]
 
 pub returns-then-words-n-ne-BUSY : goal.returns-then-words-n-ne-BUSY
