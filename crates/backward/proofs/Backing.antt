@@ -116,10 +116,10 @@ module _ (b : Buffers) (k : ℕ) {m : Machine} (is : m ≡ machine_of b.image) w
       ∙ ap (λ (x : How). left_how x (let c = (back_of k (machine_of b.image) lent).config in done_back k lent c.state c.side c.ring) b)
       (sym (answer_is h e))
 
-  tried_far : too_far ≡ said → left_of (Err refusal.TooFar) b ≡ tried_back b k
+  pub tried_far : too_far ≡ said → left_of (Err refusal.TooFar) b ≡ tried_back b k
   tried_far e = leaves too_far (sym e) _ refl
 
-  tried_bad : bad_record ≡ said → left_of (Err refusal.BadRecord) b ≡ tried_back b k
+  pub tried_bad : bad_record ≡ said → left_of (Err refusal.BadRecord) b ≡ tried_back b k
   tried_bad e = leaves bad_record (sym e) _ refl
 
   -- by the fault that was found

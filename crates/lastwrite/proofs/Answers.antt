@@ -81,7 +81,7 @@ module _ (m : Machine) (b : Beside) where
       ap (λ (far : Bool). cond far too_far (cond core done bad_record)) (le-ltb hand hand (omega arith))
       ∙ ap (λ (fit : Bool). cond fit done bad_record) (sym (core_fits M n b.journal next (core_laws no_roms) (world_in m b.ram b.paper) hand))
 
-  never_far : too_far ≡ said → ⊥
+  pub never_far : too_far ≡ said → ⊥
   never_far e = go (records_fit m b) (e ∙ asked_all)
     where
       go : (fit : Bool) → too_far ≡ cond fit done bad_record → ⊥
@@ -103,7 +103,7 @@ module _ (m : Machine) (b : Beside) where
       go false e = absurd (true≢false (ap is_done e))
 
   module _ (address room : ℕ) where
-    asked_bad : bad_record ≡ said → Err BadRecord ≡ asked_test m b address room
+    pub asked_bad : bad_record ≡ said → Err BadRecord ≡ asked_test m b address room
     unfolding asked_test
     asked_bad e = rw (records_bad e)
 
