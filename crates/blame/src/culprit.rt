@@ -1,7 +1,7 @@
 // The step that last changed a word of RAM: who it is, and what the index has of the word's frame.
 use answer::Refusal;
 use forms::kinds::Unit;
-use image::lent::Lent;
+use image::lent::Seen;
 use inquiry::reading::{instruction, unit_at};
 use lastwrite::last_write;
 use message::blame::{Change, Culprit, Frame};
@@ -37,7 +37,7 @@ fn not_told(refusal: Refusal, ram: usize) -> Refused {
 }
 
 // The step on hand that last changed a word. last_write answers 0 steps where there is none.
-pub fn last_change(lent: &Lent, address: u64) -> Result<Option<Step>, Refused> {
+pub fn last_change(lent: Seen, address: u64) -> Result<Option<Step>, Refused> {
     let mut told = [0; 16];
     let answer = last_write(
         lent.image,
@@ -56,7 +56,7 @@ pub fn last_change(lent: &Lent, address: u64) -> Result<Option<Step>, Refused> {
 }
 
 // No step on hand changed the word at `address`.
-pub fn unchanged(lent: &Lent, address: u64) -> Change {
+pub fn unchanged(lent: Seen, address: u64) -> Change {
     Change::NotOnHand {
         address,
         holds: unit_at(lent.ram, (address % 0x100_0000) as usize, Unit::Word),
@@ -82,7 +82,7 @@ pub fn in_frame(index: &[u8], address: u64) -> Frame {
 }
 
 // What is seen of the step while the machine stands just before it.
-pub fn seen(lent: &Lent, step: Step) -> Culprit {
+pub fn seen(lent: Seen, step: Step) -> Culprit {
     Culprit {
         address: step.address,
         ago: step.ago,

@@ -13,7 +13,7 @@ use session::work::{Asked, Worked};
 // The machine is stood just before the step. It stays there if it is to, or goes forward again by as many steps, which leaves everything as it was (demand 3).
 fn stand(lent: &mut Lent, step: Step, stay: bool) -> Result<Worked, Refused> {
     back(lent, step.ago)?;
-    let culprit = seen(lent, step);
+    let culprit = seen(lent.seen(), step);
     if stay {
         return Ok(Worked::Blamed {
             change: Change::Stood(culprit),
@@ -30,10 +30,10 @@ fn stand(lent: &mut Lent, step: Step, stay: bool) -> Result<Worked, Refused> {
 pub fn blame(lent: &mut Lent, asked: Asked) -> Result<Worked, Refused> {
     // A run of no steps judges the machine, its ROMs too, before it is asked.
     run(lent, 0, false)?;
-    match last_change(lent, asked.address)? {
+    match last_change(lent.seen(), asked.address)? {
         Some(step) => stand(lent, step, asked.stay),
         None => Ok(Worked::Blamed {
-            change: unchanged(lent, asked.address),
+            change: unchanged(lent.seen(), asked.address),
             frame: in_frame(lent.index, asked.address),
         }),
     }

@@ -2,7 +2,7 @@
 use crate::address::{meets_two, on_bus, through_table};
 use board::places::{Place, Sizes};
 use forms::kinds::Unit;
-use image::lent::Lent;
+use image::lent::Seen;
 use reach::Reached;
 use reach::access::{Access, Kind, Width};
 
@@ -41,7 +41,7 @@ fn load(unit: Unit) -> Access {
     }
 }
 
-fn sizes(lent: &Lent) -> Sizes {
+fn sizes(lent: Seen) -> Sizes {
     Sizes {
         ram: (lent.ram.len() % 0x1_0000_0000) as u32,
         execution: (lent.execution.len() % 0x1_0000_0000) as u32,
@@ -56,7 +56,7 @@ fn place(reached: Reached) -> Result<Place, Unread> {
     }
 }
 
-fn at_place(lent: &Lent, place: Place, unit: Unit) -> Read {
+fn at_place(lent: Seen, place: Place, unit: Unit) -> Read {
     match place {
         Place::Ram(offset) => Ok(unit_at(lent.ram, offset as usize, unit)),
         Place::Execution(offset) => Ok(unit_at(lent.execution, offset as usize, unit)),
@@ -65,7 +65,7 @@ fn at_place(lent: &Lent, place: Place, unit: Unit) -> Read {
     }
 }
 
-pub fn virtual_unit(lent: &Lent, unit: Unit, address: u32) -> Read {
+pub fn virtual_unit(lent: Seen, unit: Unit, address: u32) -> Read {
     let load = load(unit);
     if meets_two(lent.image, load, address) {
         return Err(Unread::TwoMatch);
@@ -74,13 +74,13 @@ pub fn virtual_unit(lent: &Lent, unit: Unit, address: u32) -> Read {
     at_place(lent, place, unit)
 }
 
-pub fn physical_unit(lent: &Lent, unit: Unit, address: u32) -> Read {
+pub fn physical_unit(lent: Seen, unit: Unit, address: u32) -> Read {
     let place = place(on_bus(load(unit), sizes(lent), address))?;
     at_place(lent, place, unit)
 }
 
 // The word at PC, which the next step fetches.
-pub fn instruction(lent: &Lent) -> Read {
+pub fn instruction(lent: Seen) -> Read {
     let access = Access {
         kind: Kind::Fetch,
         width: Width::Four,

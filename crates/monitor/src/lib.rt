@@ -112,7 +112,7 @@ fn done(
         Plan::Works(work) => after(&mut words, perform(work, given, lent)),
     };
     let at = match turn.view {
-        Some(view) => show(view, given, out, lent),
+        Some(view) => show(view, given, out, lent.seen()),
         None => 0,
     };
     if !has_changed(&words) {

@@ -22,7 +22,7 @@ pub fn turn(
         Plan::Works(work) => after(session, perform(work, input, lent)),
     };
     let at = match turn.view {
-        Some(view) => show(view, input, out, lent),
+        Some(view) => show(view, input, out, lent.seen()),
         None => 0,
     };
     answer(session, turn.then, out, at)

@@ -2,7 +2,7 @@
 ghost use Rattle.std.specs.Prelude.{◌<◌};
 
 use forms::kinds::{Format, Look, Unit};
-use image::lent::Lent;
+use image::lent::Seen;
 use inquiry::reading::{Read, Unread, physical_unit, virtual_unit};
 use screen::memory_units;
 use screen::memory_units::{Begins, CUT, Shown};
@@ -14,7 +14,7 @@ const MOST: u64 = 4096;
 #[derive(Clone, Copy)]
 pub struct Examined<'a> {
     pub look: Look,
-    pub lent: &'a Lent<'a>,
+    pub lent: Seen<'a>,
 }
 
 // The next unit: its address, and its place on the line.

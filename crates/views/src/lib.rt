@@ -5,7 +5,7 @@ mod paper; // paper
 mod examine; // x, xp
 
 use crate::examine::Examined;
-use image::lent::Lent;
+use image::lent::Seen;
 use manual::Help;
 use message::say;
 use phrase::lay;
@@ -16,7 +16,7 @@ use screen::sizes::{Lengths, Sizes};
 use screen::tables::{Printers, Registers, Tlb};
 use session::turn::View;
 
-fn sizes<'a>(lent: &'a Lent) -> Sizes<'a> {
+fn sizes<'a>(lent: Seen<'a>) -> Sizes<'a> {
     Sizes {
         image: lent.image,
         lengths: Lengths {
@@ -29,7 +29,7 @@ fn sizes<'a>(lent: &'a Lent) -> Sizes<'a> {
     }
 }
 
-fn printers<'a>(lent: &'a Lent) -> Printers<'a> {
+fn printers<'a>(lent: Seen<'a>) -> Printers<'a> {
     Printers {
         image: lent.image,
         eighth: lent.paper.len() / 8,
@@ -37,7 +37,7 @@ fn printers<'a>(lent: &'a Lent) -> Printers<'a> {
 }
 
 // `line` is what was typed. Answers the place in `out` behind what is shown.
-pub fn show(view: View, line: &[u8], out: &mut [u8], lent: &Lent) -> usize {
+pub fn show(view: View, line: &[u8], out: &mut [u8], lent: Seen) -> usize {
     match view {
         View::Said(message) => say(out, lent.image, message),
         View::Registers => lay(out, 0, Registers(lent.image)),
