@@ -12,11 +12,12 @@ use work::perform;
 
 pub fn turn(
     session: &mut [u64; 32],
-    event: Event,
+    event: u64,
     input: &[u8],
     out: &mut [u8],
     lent: &mut Lent,
 ) -> u64 {
+    let event = Event::from(event);
     let turn = match planned(session, event, input) {
         Plan::Turns(turn) => turn,
         Plan::Works(work) => after(session, perform(work, input, lent)),

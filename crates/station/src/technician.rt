@@ -1,6 +1,5 @@
 // One turn of a session of a technician: the call for C.
 use image::lent::Lent;
-use session::event::Event;
 
 // Stays: the parameters are those of the C call station_panel_turn in include/station.h.
 #[unsafe(no_mangle)]
@@ -26,5 +25,5 @@ pub extern "C" fn station_panel_turn(
         journal,
         index,
     };
-    panel::turn(session, Event::from(event), input, out, &mut lent)
+    panel::turn(session, event, input, out, &mut lent)
 }
