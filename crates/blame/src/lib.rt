@@ -1,6 +1,8 @@
 // blame and before: the step that last changed a word of RAM is named, or the machine is stood just before it.
 #![tactic(auto)]
 
+ghost use Rattle.image.specs.Lent.{StaysLent};
+
 mod culprit; // the step that changed a word
 
 use crate::culprit::{Step, in_frame, last_change, seen, unchanged};
@@ -11,7 +13,9 @@ use running::{back, run};
 use session::work::{Asked, Worked};
 
 // The machine is stood just before the step. It stays there if it is to, or goes forward again by as many steps, which leaves everything as it was (demand 3).
-fn stand(lent: &mut Lent, step: Step, stay: bool) -> Result<Worked, Refused> {
+fn stand(lent: &mut Lent, step: Step, stay: bool) -> Result<Worked, Refused>
+    ensures lent { StaysLent lent.old lent.new }
+{
     back(lent, step.ago)?;
     let culprit = seen(lent.seen(), step);
     if stay {
@@ -27,7 +31,9 @@ fn stand(lent: &mut Lent, step: Step, stay: bool) -> Result<Worked, Refused> {
     })
 }
 
-pub fn blame(lent: &mut Lent, asked: Asked) -> Result<Worked, Refused> {
+pub fn blame(lent: &mut Lent, asked: Asked) -> Result<Worked, Refused>
+    ensures lent { StaysLent lent.old lent.new }
+{
     // A run of no steps judges the machine, its ROMs too, before it is asked.
     run(lent, 0, false)?;
     match last_change(lent.seen(), asked.address)? {

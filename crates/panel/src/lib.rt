@@ -1,6 +1,8 @@
 // One turn of a session: it is planned, the machine works, the session goes on, and a person is shown what came of it.
 #![tactic(auto)]
 
+ghost use Rattle.image.specs.Lent.{StaysLent};
+
 use dispatch::after::after;
 use dispatch::plan::planned;
 use image::lent::Lent;
@@ -16,7 +18,9 @@ pub fn turn(
     input: &[u8],
     out: &mut [u8],
     lent: &mut Lent,
-) -> u64 {
+) -> u64
+    ensures lent { StaysLent lent.old lent.new }
+{
     let event = Event::from(event);
     let turn = match planned(session, event, input) {
         Plan::Turns(turn) => turn,

@@ -2,13 +2,18 @@
 // judges what was made.
 #![tactic(auto)]
 
+ghost use Rattle.std.specs.Prelude.{◌≡◌};
+ghost use Rattle.image.specs.Lent.{StaysLent};
+
 use answer::{Answer, Reason};
 use image::lent::Lent;
 use message::ran::End;
 use message::refused::Refused;
 use session::work::{Settings, Worked};
 
-fn forward(lent: &mut Lent, steps: u64, stops: bool) -> Answer {
+fn forward(lent: &mut Lent, steps: u64, stops: bool) -> Answer
+    ensures lent { StaysLent lent.old lent.new }
+{
     forward::run(
         lent.image,
         lent.execution,
@@ -33,7 +38,9 @@ fn end(image: &[u8], reason: Reason) -> End {
     }
 }
 
-pub fn run(lent: &mut Lent, steps: u64, stops: bool) -> Result<Worked, Refused> {
+pub fn run(lent: &mut Lent, steps: u64, stops: bool) -> Result<Worked, Refused>
+    ensures lent { StaysLent lent.old lent.new }
+{
     let done = forward(lent, steps, stops)?;
     Ok(Worked::Ran {
         steps: done.steps as u64,
@@ -41,7 +48,9 @@ pub fn run(lent: &mut Lent, steps: u64, stops: bool) -> Result<Worked, Refused> 
     })
 }
 
-pub fn make(lent: &mut Lent, settings: Settings) -> Result<Worked, Refused> {
+pub fn make(lent: &mut Lent, settings: Settings) -> Result<Worked, Refused>
+    ensures lent { StaysLent lent.old lent.new }
+{
     reset::reset(
         lent.image,
         lent.index,
@@ -61,11 +70,16 @@ fn taken_back(
     journal: &mut [u8],
     index: &mut [u8],
     steps: u64,
-) -> Answer {
+) -> Answer
+    ensures journal { journal.new ≡ journal.old }
+{
     backward::take_back(image, ram, paper, journal, index, steps)
 }
 
-pub fn back(lent: &mut Lent, steps: u64) -> Result<Worked, Refused> {
+pub fn back(lent: &mut Lent, steps: u64) -> Result<Worked, Refused>
+    ensures lent { StaysLent lent.old lent.new }
+    ensures journal { lent.new.journal.now ≡ lent.old.journal.now }
+{
     let done = taken_back(
         lent.image,
         lent.ram,

@@ -1,6 +1,8 @@
 // The machine does what a turn asks of it.
 #![tactic(auto)]
 
+ghost use Rattle.image.specs.Lent.{StaysLent};
+
 mod judge; // new: whether a station can be made
 mod load; // load
 
@@ -12,7 +14,9 @@ use message::refused::Refused;
 use running::{back, make, run};
 use session::work::{Work, Worked};
 
-pub fn perform(work: Work, file: &[u8], lent: &mut Lent) -> Result<Worked, Refused> {
+pub fn perform(work: Work, file: &[u8], lent: &mut Lent) -> Result<Worked, Refused>
+    ensures lent { StaysLent lent.old lent.new }
+{
     match work {
         Work::Judge(fresh) => judged(fresh),
         Work::Make(settings) => make(lent, settings),

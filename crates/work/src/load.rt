@@ -1,4 +1,7 @@
 // load: a file's bytes are put into RAM. What the host writes is no step, so the journal is emptied, and with it the index.
+ghost use Rattle.std.specs.Prelude.{◌≡◌};
+ghost use Rattle.image.specs.Lent.{StaysLent};
+
 use answer::Refusal;
 use image::lent::Lent;
 use message::refused::Refused;
@@ -22,7 +25,11 @@ fn place(address: u64, len: usize, ram: usize) -> Option<usize> {
     Some(place)
 }
 
-pub fn load(file: &[u8], lent: &mut Lent, address: u64) -> Result<Worked, Refused> {
+pub fn load(file: &[u8], lent: &mut Lent, address: u64) -> Result<Worked, Refused>
+    ensures lent { StaysLent lent.old lent.new }
+    ensures paper { lent.new.paper.now ≡ lent.old.paper.now }
+    ensures journal { lent.new.journal.now ≡ lent.old.journal.now }
+{
     if lent.image.len() != IMAGE {
         return Err(Refused::Call(Refusal::Image));
     }
