@@ -13,8 +13,8 @@ pub struct Digits {
 // The number at a place of a packet.
 pub fn number(packet: &[u8], from: usize) -> Digits {
     let mut value: u64 = 0;
-    for (to, &b) in packet.iter().enumerate().skip(from) {
-        let Some(d) = digit(b) else {
+    for to in from..packet.len() {
+        let Some(d) = digit(packet[to]) else {
             return Digits { value, to };
         };
         value = value % 0x1000_0000_0000_0000 * 16 + d;

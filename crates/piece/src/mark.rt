@@ -56,25 +56,32 @@ pub fn stands(line: &[u8], at: usize, byte: u8) -> bool
     line.get(at) == Some(&byte)
 }
 
+// What stands at a place and behind it: nothing, past the line's end.
+fn rest(line: &[u8], from: usize) -> &[u8]
+    ensures { result.now ≡ drop from line.now }
+{
+    line.get(from..).unwrap_or(&[])
+}
+
 // The place behind the spaces at a place.
 pub fn behind_spaces(line: &[u8], from: usize) -> usize
     ensures { result ≡ behind_spaces line.now from }
 {
-    from + line.iter().skip(from).take_while(|&&b| b == b' ').count()
+    from + rest(line, from).iter().take_while(|&&b| b == b' ').count()
 }
 
 // The place behind the bytes above 0x20 at a place.
 fn behind_name(line: &[u8], from: usize) -> usize
     ensures { result ≡ behind_name line.now from }
 {
-    from + line.iter().skip(from).take_while(|&&b| b' ' < b).count()
+    from + rest(line, from).iter().take_while(|&&b| b' ' < b).count()
 }
 
 // The place behind the bytes at a place that agree with those of a word.
 fn behind_agreed(line: &[u8], from: usize, bytes: &[u8]) -> usize
     ensures { result ≡ from + agreed_of bytes.now (drop from line.now) }
 {
-    let pairs = line.iter().skip(from).zip(bytes.iter());
+    let pairs = rest(line, from).iter().zip(bytes.iter());
     from + pairs.take_while(|&(a, b)| a == b).count()
 }
 
