@@ -8,13 +8,13 @@ const REGISTERS: [&str; 32] = [
     "ra",
 ];
 
-// The usual name of a register, by its number.
+// The usual name of a register, by its number; above 31 it is shown as the last.
 #[derive(Clone, Copy)]
 pub struct Register(pub usize);
 
 impl fmt::Display for Register {
     fn fmt<W: fmt::Write>(&self, f: &mut fmt::Formatter<W>) -> fmt::Result {
-        f.pad(REGISTERS[self.0 % 32])
+        f.pad(REGISTERS[self.0.min(31)])
     }
 }
 
