@@ -1,6 +1,9 @@
 // Why something is refused: what is wrong and what to do.
+ghost use Rattle.std.specs.Prelude.{◌≡◌};
+ghost use Rattle.message.specs.declared.refused.Refused.TheVariants.{Call};
+
 use answer::Refusal;
-use phrase::Grouped;
+use phrase::{Decimal, Grouped};
 use std::fmt;
 
 #[derive(Clone, Copy)]
@@ -20,6 +23,8 @@ pub enum Refused {
 }
 
 impl From<Refusal> for Refused {
+    ghost from_gives = { λ refusal refused. refused ≡ Call refusal };
+
     fn from(refusal: Refusal) -> Refused {
         Refused::Call(refusal)
     }
@@ -33,43 +38,24 @@ fn no_word<W: fmt::Write>(f: &mut fmt::Formatter<W>, ram: u64) -> fmt::Result {
     )
 }
 
+// The number of a refusal, what is wrong and what to do.
 fn call<W: fmt::Write>(f: &mut fmt::Formatter<W>, refusal: Refusal) -> fmt::Result {
-    match refusal {
-        Refusal::Ram => {
-            f.write_str("Refused (1): RAM is not 1 to 4,096 frames. Give ram 1 to 4096.\n")
-        }
-        Refusal::Rom => f.write_str(
-            "Refused (2): a ROM is not 4 to 65,536 bytes in words. Give another file.\n",
-        ),
-        Refusal::Paper => f.write_str(
-            "Refused (3): paper is not 0 to 65,536 bytes, in eights. Give paper 8192.\n",
-        ),
-        Refusal::Journal => f.write_str(
-            "Refused (4): the journal is over 32,768 steps. Give journal 0 to 32768.\n",
-        ),
-        Refusal::Image => f.write_str(
-            "Refused (5): the state breaks a rule of the machine. Go back by restore.\n",
-        ),
-        Refusal::Range => f.write_str(
-            "Refused (6): give scale 1 to 255, delay 1 to 65535, printers 0 to 255.\n",
-        ),
-        Refusal::TooFar => f.write_str(
-            "Refused (7): so many steps are not on hand. info station says how many are.\n",
-        ),
-        Refusal::BadRecord => f.write_str(
-            "Refused (8): a record of the journal is damaged. Go back less, or restore.\n",
-        ),
-        Refusal::Address => {
-            f.write_str("Refused (9): no ROM has that word. Give a multiple of 4 in a ROM.\n")
-        }
-        Refusal::Index => {
-            f.write_str("Refused (10): the index does not fit the RAM. Go back by restore.\n")
-        }
-        Refusal::Word => no_word(f, 0),
-        Refusal::Room => f.write_str(
-            "Refused (12): no room for the answer. This is a fault of the program.\n",
-        ),
-    }
+    let advice = match refusal {
+        Refusal::Ram => "RAM is not 1 to 4,096 frames. Give ram 1 to 4096.",
+        Refusal::Rom => "a ROM is not 4 to 65,536 bytes in words. Give another file.",
+        Refusal::Paper => "paper is not 0 to 65,536 bytes, in eights. Give paper 8192.",
+        Refusal::Journal => "the journal is over 32,768 steps. Give journal 0 to 32768.",
+        Refusal::Image => "the state breaks a rule of the machine. Go back by restore.",
+        Refusal::Range => "give scale 1 to 255, delay 1 to 65535, printers 0 to 255.",
+        Refusal::TooFar => "so many steps are not on hand. info station says how many are.",
+        Refusal::BadRecord => "a record of the journal is damaged. Go back less, or restore.",
+        Refusal::Address => "no ROM has that word. Give a multiple of 4 in a ROM.",
+        Refusal::Index => "the index does not fit the RAM. Go back by restore.",
+        Refusal::Word => return no_word(f, 0),
+        Refusal::Room => "no room for the answer. This is a fault of the program.",
+    };
+    let number = Decimal(u64::from(refusal));
+    write!(f, "Refused ({number}): {advice}\n")
 }
 
 impl fmt::Display for Refused {
