@@ -122,8 +122,8 @@ impl fmt::Display for Standing {
     }
 }
 
-pub fn say(out: &mut [u8], image: &[u8], message: Message) -> usize {
-    let at = lay(out, 0, message);
+pub fn say(out: &mut [u8], at: usize, image: &[u8], message: Message) -> usize {
+    let at = lay(out, at, message);
     if !stands(message) {
         return at;
     }
