@@ -1,4 +1,6 @@
 // A line that is no command, with the place marked from which it fits none.
+ghost use Rattle.std.specs.Prelude.{◌≤◌};
+
 use std::fmt;
 
 #[derive(Clone, Copy)]
@@ -11,7 +13,9 @@ pub struct Misfit<'a> {
 const COLUMNS: usize = 78;
 
 // A long line is shown from here on, so that the place is in sight.
-fn start(place: usize) -> usize {
+fn start(place: usize) -> usize
+    ensures { result ≤ place }
+{
     if place < 70 { 0 } else { place - 60 }
 }
 
@@ -29,10 +33,10 @@ impl fmt::Display for Misfit<'_> {
             return Ok(());
         }
         let start = start(self.place);
-        for &byte in self.line.iter().skip(start).take(COLUMNS) {
+        for &byte in self.line[start..].iter().take(COLUMNS) {
             f.write_char(face(byte))?;
         }
-        let column = self.place.saturating_sub(start);
+        let column = self.place - start;
         write!(
             f,
             "\n{:column$}^\nThe line fits no command from the ^ on. Say help, or help and a word.\n",
