@@ -55,7 +55,7 @@ fn sizes(execution: usize, bootstrap: usize, ram: usize) -> Sizes {
     }
 }
 
-// The place of an address on the bus, where the ROMs and RAM have these lengths, if there is one.
+// The place in RAM or a ROM of an address, where these have such lengths, if there is one: a device's registers are no memory.
 pub fn at_address(
     eyes: Eyes,
     execution: usize,
@@ -68,7 +68,10 @@ pub fn at_address(
         vm: eyes.low | (0x8000_0000 <= address),
     };
     let physical = translate(mode, Kind::Load, address, eyes.rows, eyes.entry).ok()?;
-    mapped(sizes(execution, bootstrap, ram), physical)
+    mapped(sizes(execution, bootstrap, ram), physical).filter(|place| !matches!(
+        place,
+        Place::Device(_)
+    ))
 }
 
 // The byte at an address, if RAM or a ROM has one there.

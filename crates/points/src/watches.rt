@@ -1,5 +1,7 @@
 // Watches: some bytes from a virtual address on. gdb takes every watch out at a stop and puts it in again before the next run, so one that
 // is off is remembered, with the place that it had.
+ghost use Rattle.std.specs.Prelude.{◌≡◌, slice_index_or};
+
 use peek::{Eyes, in_ram};
 use stub::words::{FIRST_BREAK, FIRST_WATCH, WATCHED_FROM, WATCHED_TO, WATCHES};
 
@@ -25,13 +27,22 @@ impl From<[u64; 4]> for Watch {
     }
 }
 
+// The word of a place.
+fn word(place: Option<u64>) -> u64 {
+    match place {
+        Some(place) => place.wrapping_add(1),
+        None => 0,
+    }
+}
+
 impl From<Watch> for [u64; 4] {
     fn from(watch: Watch) -> [u64; 4] {
-        let place = match watch.place {
-            Some(place) => place.wrapping_add(1),
-            None => 0,
-        };
-        [watch.address, watch.length, place, u64::from(watch.on)]
+        [
+            watch.address,
+            watch.length,
+            word(watch.place),
+            u64::from(watch.on),
+        ]
     }
 }
 
@@ -51,11 +62,9 @@ pub fn count(session: &[u64; 256]) -> u64 {
     session[WATCHES] % 32
 }
 
+// A watch is on where its fourth word is not 0. This module writes 1 there; of another number, which can only come from outside, the last bit counts here.
 fn count_again(session: &mut [u64; 256]) {
-    let count = rows(session)
-        .iter()
-        .filter(|row| Watch::from(**row).on)
-        .count();
+    let count = rows(session).iter().filter(|row| row[3] % 2 == 1).count();
     session[WATCHES] = count as u64;
 }
 
@@ -96,11 +105,19 @@ fn span(session: &[u64; 256]) -> (u64, u64) {
     (from, to)
 }
 
+// The row of a watch, with the place that it has now.
+fn replaced(row: [u64; 4], eyes: Eyes, ram: usize) -> [u64; 4]
+    ensures on { slice_index_or result 3 0 ≡ slice_index_or row 3 0 }
+{
+    let [address, length, _, on] = row;
+    let watch = placed(Watch::from(row), eyes, ram);
+    [address, length, word(watch.place), on]
+}
+
 // All are placed anew, by the table as it stands.
 pub fn place_all(session: &mut [u64; 256], eyes: Eyes, ram: usize) {
     for row in rows_mut(session) {
-        let watch = Watch::from(*row);
-        *row = placed(watch, eyes, ram).into();
+        *row = replaced(*row, eyes, ram);
     }
     let (from, to) = span(session);
     session[WATCHED_FROM] = from;
