@@ -1,6 +1,7 @@
 // Watches: some bytes from a virtual address on. gdb takes every watch out at a stop and puts it in again before the next run, so one that
 // is off is remembered, with the place that it had.
-ghost use Rattle.std.specs.Prelude.{◌≡◌, slice_index_or};
+ghost use Rattle.std.specs.Prelude.{◌≡◌, ◌+◌, ◌%◌, ◌↔◌, ◌==◌, not, IfSome, IsTrue, slice_index_or, slice_range};
+ghost use Rattle.std.specs.Simd.{first_chunks};
 
 use peek::{Eyes, in_ram};
 use stub::words::{FIRST_BREAK, FIRST_WATCH, WATCHED_FROM, WATCHED_TO, WATCHES};
@@ -16,6 +17,12 @@ pub struct Watch {
 
 // In the words of a session its place is the third, plus 1; 0: it is not known.
 impl From<[u64; 4]> for Watch {
+    ghost from_gives = { λ words watch.
+        (watch.address ≡ slice_index_or words 0 0)
+        × (watch.length ≡ slice_index_or words 1 0)
+        × IfSome watch.place (λ place. place + 1 ≡ slice_index_or words 2 0)
+        × (watch.on ≡ not (slice_index_or words 3 0 == 0)) };
+
     fn from(words: [u64; 4]) -> Watch {
         let [address, length, place, on] = words;
         Watch {
@@ -36,6 +43,11 @@ fn word(place: Option<u64>) -> u64 {
 }
 
 impl From<Watch> for [u64; 4] {
+    ghost from_gives = { λ watch words.
+        (slice_index_or words 0 0 ≡ watch.address)
+        × (slice_index_or words 1 0 ≡ watch.length)
+        × (IsTrue watch.on ↔ (slice_index_or words 3 0 ≡ 1)) };
+
     fn from(watch: Watch) -> [u64; 4] {
         [
             watch.address,
@@ -47,7 +59,9 @@ impl From<Watch> for [u64; 4] {
 }
 
 // The words of all of them, on or off.
-pub fn rows(session: &[u64; 256]) -> &[[u64; 4]] {
+pub fn rows(session: &[u64; 256]) -> &[[u64; 4]]
+    ensures { result.now ≡ first_chunks 4 16 (slice_range session.now 32 96) }
+{
     let (rows, _) = session[FIRST_WATCH..FIRST_BREAK].as_chunks::<4>();
     rows
 }
@@ -62,9 +76,16 @@ pub fn count(session: &[u64; 256]) -> u64 {
     session[WATCHES] % 32
 }
 
-// A watch is on where its fourth word is not 0. This module writes 1 there; of another number, which can only come from outside, the last bit counts here.
+// Whether a row counts as on. A watch is on where its fourth word is not 0, and this module writes 1 there; of any other number, which only a caller
+// can have put there, the last bit counts.
+fn counts(row: &[u64; 4]) -> bool
+    ensures { IsTrue result ↔ (slice_index_or row.now 3 0 % 2 ≡ 1) }
+{
+    row[3] % 2 == 1
+}
+
 fn count_again(session: &mut [u64; 256]) {
-    let count = rows(session).iter().filter(|row| row[3] % 2 == 1).count();
+    let count = rows(session).iter().filter(|row| counts(*row)).count();
     session[WATCHES] = count as u64;
 }
 
