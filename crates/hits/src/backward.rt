@@ -11,16 +11,16 @@ pub fn watched(session: &[u64; 256], record: &[u8; SLOT], ram: &[u8]) -> Option<
     change(session, store, present(ram, store.place))
 }
 
-// The stop at the k-th newest step: it is still done for a watch, and taken back for a breakpoint.
+// The stop at the k-th newest step: it is still done for a watch, and taken back for a breakpoint. Where there is no such record its PC is taken as 0.
 fn at(session: &[u64; 256], journal: &[u8], ram: &[u8], next: usize, k: usize) -> Option<Stop> {
-    let record = record(journal, next, k)?;
-    if let Some(address) = watched(session, record, ram) {
+    let record = record(journal, next, k);
+    if let Some(address) = record.and_then(|record| watched(session, record, ram)) {
         return Some(Stop {
             steps: k.saturating_sub(1),
             watch: Some(address),
         });
     }
-    breaks::is_at(session, pc(record)).then_some(Stop {
+    breaks::is_at(session, record.map_or(0, pc)).then_some(Stop {
         steps: k,
         watch: None,
     })

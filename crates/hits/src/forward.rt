@@ -36,9 +36,9 @@ fn watched(session: &[u64; 256], journal: &[u8], ram: &[u8], next: usize, k: usi
     change(session, store, after(journal, ram, next, k, store.place))
 }
 
-// Whether the run stops at the PC of the k-th newest step. That of the first, from which the steps were run, was looked at before.
+// Whether the run stops at the PC of the k-th newest step, 0 where there is no such record. That of the first, from which the steps were run, was looked at before.
 fn stops_before(session: &[u64; 256], journal: &[u8], next: usize, k: usize, count: usize) -> bool {
-    k != count && record(journal, next, k).is_some_and(|record| stops_at(session, pc(record)))
+    k != count && stops_at(session, record(journal, next, k).map_or(0, pc))
 }
 
 // The stop before the k-th newest step, if there is one.

@@ -1,5 +1,8 @@
 // What the record of a step says (docs/RECORD.md).
-ghost use Rattle.std.specs.Prelude.{◌+◌, ◌*◌, ◌≤◌};
+ghost use Rattle.std.specs.Prelude.{◌≡◌, ◌+◌, ◌*◌, ◌/◌, ◌≤◌, ◌↔◌, Some, IsSome, IfSome, length, slice_get};
+ghost use Rattle.std.specs.Simd.{first_chunks};
+ghost use Rattle.memory.specs.Memory.{load_at};
+ghost use Rattle.ring.specs.Slots.{slot_back};
 
 use journal::SLOT;
 use memory::load_word;
@@ -13,7 +16,13 @@ pub struct Store {
 }
 
 // The record of the k-th newest step, where `next` is the next slot. There is none for numbers that no image has that was accepted.
-pub fn record(journal: &[u8], next: usize, k: usize) -> Option<&[u8; SLOT]> {
+pub fn record(journal: &[u8], next: usize, k: usize) -> Option<&[u8; SLOT]>
+    ensures { IfSome
+        result
+        (λ found.
+        slice_get (first_chunks 512 (length journal.now / 512) journal.now) (slot_back (length journal.now / 512) next k)
+        ≡ Some found.now) }
+{
     let (slots, _) = journal.as_chunks::<SLOT>();
     if slots.len() <= next {
         return None;
@@ -26,16 +35,22 @@ pub fn record(journal: &[u8], next: usize, k: usize) -> Option<&[u8; SLOT]> {
 
 fn word(record: &[u8; SLOT], k: usize) -> u32
     requires { 4 * k + 4 ≤ 512 }
+    ensures { result ≡ load_at 4 «record».now (4 * k) }
 {
     load_word(record, 4 * k)
 }
 
-pub fn pc(record: &[u8; SLOT]) -> u32 {
+pub fn pc(record: &[u8; SLOT]) -> u32
+    ensures { result ≡ load_at 4 «record».now 8 }
+{
     word(record, PC)
 }
 
 // What the step stored, where it wrote a word of RAM.
-pub fn stored(record: &[u8; SLOT]) -> Option<Store> {
+pub fn stored(record: &[u8; SLOT]) -> Option<Store>
+    ensures kind { IsSome result ↔ (load_at 4 «record».now 236 ≡ 3) }
+    ensures words { IfSome result (λ store. (store.place ≡ load_at 4 «record».now 240) × (store.old ≡ load_at 4 «record».now 244)) }
+{
     if word(record, KIND) != RAM {
         return None;
     }

@@ -1,4 +1,7 @@
 // Whether the change of a word of RAM is one of a watched byte.
+ghost use Rattle.std.specs.Prelude.{◌≡◌, IfSome};
+ghost use Rattle.memory.specs.Memory.{load_at};
+
 use crate::says::{self, Store};
 use journal::SLOT;
 use points::watches::{Watch, rows};
@@ -39,6 +42,8 @@ fn may_hold(session: &[u64; 256], place: u32) -> bool {
 }
 
 // What the step of a record stored, where the word can have a watched byte.
-pub fn stored(session: &[u64; 256], record: &[u8; SLOT]) -> Option<Store> {
+pub fn stored(session: &[u64; 256], record: &[u8; SLOT]) -> Option<Store>
+    ensures { IfSome result (λ store. (store.place ≡ load_at 4 «record».now 240) × (store.old ≡ load_at 4 «record».now 244)) }
+{
     says::stored(record).filter(|store| may_hold(session, store.place))
 }
