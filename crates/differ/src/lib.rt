@@ -40,6 +40,16 @@ enum Judged {
     Differ { count: usize, first: u64 },
 }
 
+// What stands at a place and behind it: nothing, past the end.
+fn rest(bytes: &[u8], from: usize) -> &[u8] {
+    bytes.get(from..).unwrap_or(&[])
+}
+
+// How many bytes differ.
+fn count(here: &[u8], there: &[u8]) -> usize {
+    here.iter().zip(there).filter(|(a, b)| a != b).count()
+}
+
 // `from` is the address of the first byte.
 fn judge(here: &[u8], there: &[u8], from: u64) -> Judged {
     if here.len() != there.len() {
@@ -51,7 +61,7 @@ fn judge(here: &[u8], there: &[u8], from: u64) -> Judged {
     match here.iter().zip(there).position(|(a, b)| a != b) {
         None => Judged::Same,
         Some(first) => Judged::Differ {
-            count: here.iter().zip(there).filter(|(a, b)| a != b).count(),
+            count: count(rest(here, first), rest(there, first)),
             first: from.wrapping_add(first as u64),
         },
     }
