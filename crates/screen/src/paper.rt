@@ -19,7 +19,7 @@ impl fmt::Display for Paper<'_> {
         )?;
         for &byte in self.printed {
             match byte {
-                b'\n' => f.write_str("\n")?,
+                b'\n' | b' '..=b'~' => f.write_char(byte as char)?,
                 _ => write!(f, "{}", Character(byte))?,
             }
         }
