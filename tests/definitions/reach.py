@@ -32,6 +32,9 @@ STATEMENTS = [
     "disks.ticked_of", "disks.command_of", "disks.data_of", "disks.line_keeps", "disks.shown_of", "disks.note_of", "disks.note_words",
     "disks.undo_of", "disks.undo_word", "disks.word_of", "disks.kepts_in", "disks.line_in", "disks.disk_words", "disks.eight", "disk.reset_of", "disk.size_keeps", "disk.kept_fits", "disk.kept_from",
     "command.command_of", "text.number_of", "text.Laid", "text.decimal_of", "text.grouped_of", "text.signed_of", "text.hex_of",
+    # what is read from an image, and what the words of a session with gdb number
+    "image.word_of", "image.register_of", "image.clock_of", "image.entry_of", "image.printer_of",
+    "stub.mode_number", "stub.mode_of", "stub.signal_number", "stub.line_number", "stub.line_of",
 ]
 
 # Below this line a file has aids to the proofs of the code. A file of nothing else begins with it.

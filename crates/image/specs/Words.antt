@@ -4,8 +4,6 @@ use Rattle.word.specs.Big.{word_at}
 use Rattle.image.specs.declared.TlbEntry.{TlbEntry}
 use Rattle.image.specs.declared.PrinterWords.{PrinterWords}
 
--- ---- aids to proofs: nothing that a reader must believe
-
 -- word k behind the length word and the version
 unfoldable pub word_of : List ℕ → ℕ → ℕ
 word_of image k = cond (leb 184 k) 0 (cond (eqb (length image) 741) (word_at image (4 * k + 5)) 0)

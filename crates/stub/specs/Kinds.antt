@@ -7,8 +7,6 @@ use Rattle.stub.specs.declared.kinds.Signal.TheVariants.{Interrupt, Trap, Bus}
 use Rattle.stub.specs.declared.kinds.Line.{Line}
 use Rattle.stub.specs.declared.kinds.Line.TheVariants.{Emptied, TwoMatches, Refused}
 
--- ---- aids to proofs: nothing that a reader must believe
-
 abbrev pub mode_number : Mode → ℕ
 mode_number Idle = 0
 mode_number Continue = 1
