@@ -1,6 +1,9 @@
 // What the host writes is no step: it can not be taken back, and the records of the steps before it do not fit any more.
 #![tactic(auto)]
 
+ghost use Rattle.std.specs.Prelude.{◌≡◌};
+ghost use Rattle.image.specs.Lent.{StaysLent};
+
 use image::lent::Lent;
 use kept::put_back_image;
 use reset::empty;
@@ -12,7 +15,12 @@ use text::put;
 const JOURNAL: usize = 493;
 
 // The journal is emptied, and with it the index. The user is told where that loses a step.
-pub fn wrote(session: &mut [u64; 256], lent: &mut Lent) {
+pub fn wrote(session: &mut [u64; 256], lent: &mut Lent)
+    ensures lent { StaysLent lent.old lent.new }
+    ensures ram { lent.new.ram.now ≡ lent.old.ram.now }
+    ensures paper { lent.new.paper.now ≡ lent.old.paper.now }
+    ensures journal { lent.new.journal.now ≡ lent.old.journal.now }
+{
     if image::word(lent.image, image::ON_HAND) != 0 {
         session[LINE] = Line::Emptied.into();
     }
@@ -22,7 +30,9 @@ pub fn wrote(session: &mut [u64; 256], lent: &mut Lent) {
 }
 
 // Whether the machine takes the image as it is: a run of no steps judges it.
-fn is_taken(lent: &mut Lent) -> bool {
+fn is_taken(lent: &mut Lent) -> bool
+    ensures lent { StaysLent lent.old lent.new }
+{
     forward::run(
         lent.image,
         lent.execution,
@@ -38,7 +48,9 @@ fn is_taken(lent: &mut Lent) -> bool {
 }
 
 // Behind a write of registers into the image, which `kept` has as it was. Answers whether it stands; where the machine does not take it, it is put back.
-pub fn judged(session: &mut [u64; 256], lent: &mut Lent, kept: &[u8]) -> bool {
+pub fn judged(session: &mut [u64; 256], lent: &mut Lent, kept: &[u8]) -> bool
+    ensures lent { StaysLent lent.old lent.new }
+{
     if is_taken(lent) {
         wrote(session, lent);
         return true;

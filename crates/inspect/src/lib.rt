@@ -1,8 +1,11 @@
 // g, G, p, P, m, M, X: registers and memory. What the host writes is no step: see the crate host.
 #![tactic(auto)]
 
+ghost use Rattle.std.specs.Prelude.{◌≡◌};
+ghost use Rattle.image.specs.Lent.{StaysLent};
+
 use base16::{gather, number};
-use image::lent::Lent;
+use image::lent::{Lent, Seen};
 use kept::keep_image;
 use peek::look;
 use registers::numbers::{COUNT, is_read_only};
@@ -57,7 +60,9 @@ pub fn write_registers(
     packet: &[u8],
     lent: &mut Lent,
     kept: &mut [u8],
-) -> usize {
+) -> usize
+    ensures lent { StaysLent lent.old lent.new }
+{
     let is_done = match wrote(packet, lent.image, kept) {
         None => false,
         Some(false) => true,
@@ -67,7 +72,7 @@ pub fn write_registers(
 }
 
 // m ADDRESS,LENGTH
-pub fn read(reply: &mut [u8], packet: &[u8], lent: &Lent) -> usize {
+pub fn read(reply: &mut [u8], packet: &[u8], lent: Seen) -> usize {
     let Some(asked) = two(packet, 1, b',') else {
         return refused(reply);
     };
@@ -108,7 +113,11 @@ fn lay(
     bytes: Option<&[u8]>,
     asked: Both,
     lent: &mut Lent,
-) -> usize {
+) -> usize
+    ensures lent { StaysLent lent.old lent.new }
+    ensures paper { lent.new.paper.now ≡ lent.old.paper.now }
+    ensures journal { lent.new.journal.now ≡ lent.old.journal.now }
+{
     let Some(bytes) = bytes else {
         return refused(reply);
     };
@@ -132,7 +141,11 @@ pub fn write_digits(
     reply: &mut [u8],
     packet: &mut [u8],
     lent: &mut Lent,
-) -> usize {
+) -> usize
+    ensures lent { StaysLent lent.old lent.new }
+    ensures paper { lent.new.paper.now ≡ lent.old.paper.now }
+    ensures journal { lent.new.journal.now ≡ lent.old.journal.now }
+{
     let Some(asked) = asked(packet) else {
         return refused(reply);
     };
@@ -146,7 +159,11 @@ pub fn write_bytes(
     reply: &mut [u8],
     packet: &[u8],
     lent: &mut Lent,
-) -> usize {
+) -> usize
+    ensures lent { StaysLent lent.old lent.new }
+    ensures paper { lent.new.paper.now ≡ lent.old.paper.now }
+    ensures journal { lent.new.journal.now ≡ lent.old.journal.now }
+{
     let Some(asked) = asked(packet) else {
         return refused(reply);
     };

@@ -1,10 +1,13 @@
 // monitor: lines of the station's own language that gdb passes on. Those that look, blame, before, and reset; all else gdb does itself.
 #![tactic(auto)]
 
+ghost use Rattle.std.specs.Prelude.{◌≡◌};
+ghost use Rattle.image.specs.Lent.{StaysLent};
+
 use answer::Refusal;
 use command::{Command, command};
 use dispatch::after::after;
-use image::lent::Lent;
+use image::lent::{Lent, Seen};
 use line::line;
 use peek::{in_ram, look};
 use phrase::lay;
@@ -63,13 +66,13 @@ fn physical(image: &[u8], ram: usize, address: u64) -> u64 {
     }
 }
 
-fn blamed(lent: &Lent, address: u64, stay: bool) -> Plan {
+fn blamed(lent: Seen, address: u64, stay: bool) -> Plan {
     let address = physical(lent.image, lent.ram.len(), address);
     Plan::Works(Work::Blame(Asked { address, stay }))
 }
 
 // What a line asks for that is understood here.
-fn plan(words: &mut [u64; 32], asked: Result<Command, usize>, given: &[u8], lent: &Lent) -> Plan {
+fn plan(words: &mut [u64; 32], asked: Result<Command, usize>, given: &[u8], lent: Seen) -> Plan {
     match asked {
         Ok(Command::Blame(address)) => blamed(lent, address, false),
         Ok(Command::Before(address)) => blamed(lent, address, true),
@@ -104,10 +107,12 @@ fn done(
     given: &[u8],
     out: &mut [u8],
     lent: &mut Lent,
-) -> usize {
+) -> usize
+    ensures lent { StaysLent lent.old lent.new }
+{
     let mut words = [0; 32];
     set_there(&mut words);
-    let turn = match plan(&mut words, asked, given, lent) {
+    let turn = match plan(&mut words, asked, given, lent.seen()) {
         Plan::Turns(turn) => turn,
         Plan::Works(work) => after(&mut words, perform(work, given, lent)),
     };
@@ -123,7 +128,12 @@ fn done(
 }
 
 // The machine as just switched on, with the settings that it has.
-fn was_reset(lent: &mut Lent) -> Result<(), Refusal> {
+fn was_reset(lent: &mut Lent) -> Result<(), Refusal>
+    ensures lent { StaysLent lent.old lent.new }
+    ensures ram { lent.new.ram.now ≡ lent.old.ram.now }
+    ensures paper { lent.new.paper.now ≡ lent.old.paper.now }
+    ensures journal { lent.new.journal.now ≡ lent.old.journal.now }
+{
     let scale = image::word(lent.image, image::SCALE);
     let delay = image::word(lent.image, image::DELAY);
     let installed = image::word(lent.image, image::INSTALLED);
@@ -137,7 +147,12 @@ fn was_reset(lent: &mut Lent) -> Result<(), Refusal> {
     Ok(())
 }
 
-fn reset(session: &mut [u64; 256], out: &mut [u8], lent: &mut Lent) -> usize {
+fn reset(session: &mut [u64; 256], out: &mut [u8], lent: &mut Lent) -> usize
+    ensures lent { StaysLent lent.old lent.new }
+    ensures ram { lent.new.ram.now ≡ lent.old.ram.now }
+    ensures paper { lent.new.paper.now ≡ lent.old.paper.now }
+    ensures journal { lent.new.journal.now ≡ lent.old.journal.now }
+{
     if was_reset(lent).is_err() {
         return lay(out, 0, Text::NotReset);
     }
@@ -147,7 +162,9 @@ fn reset(session: &mut [u64; 256], out: &mut [u8], lent: &mut Lent) -> usize {
 }
 
 // Answers the place in `out` behind what is said.
-pub fn monitor(session: &mut [u64; 256], given: &[u8], out: &mut [u8], lent: &mut Lent) -> usize {
+pub fn monitor(session: &mut [u64; 256], given: &[u8], out: &mut [u8], lent: &mut Lent) -> usize
+    ensures lent { StaysLent lent.old lent.new }
+{
     if given == b"reset".as_slice() {
         return reset(session, out, lent);
     }

@@ -1,14 +1,16 @@
 // A packet, by its first byte, and the reply to it.
 #![tactic(auto)]
 
-use image::lent::Lent;
+ghost use Rattle.image.specs.Lent.{StaysLent};
+
+use image::lent::{Lent, Seen};
 use journal::SLOT;
 use replies::{inserts, plain, queries, stops};
 use stub::Next;
 use stub::kinds::Mode;
 
 // v: vCont, vKill; any other is not known.
-fn verbose(session: &mut [u64; 256], reply: &mut [u8], packet: &[u8], lent: &Lent) -> Next {
+fn verbose(session: &mut [u64; 256], reply: &mut [u8], packet: &[u8], lent: Seen) -> Next {
     if packet.starts_with(b"vCont") {
         return resumes::continues(session, reply, packet, lent);
     }
@@ -19,7 +21,7 @@ fn verbose(session: &mut [u64; 256], reply: &mut [u8], packet: &[u8], lent: &Len
 }
 
 // What neither writes nor moves the machine.
-fn still(session: &mut [u64; 256], reply: &mut [u8], packet: &[u8], lent: &Lent) -> Next {
+fn still(session: &mut [u64; 256], reply: &mut [u8], packet: &[u8], lent: Seen) -> Next {
     match packet.first() {
         Some(b'?') => Next::Reply(stops::last(session, reply, lent.image)),
         Some(b'g') => Next::Reply(registers::show::all(reply, lent.image)),
@@ -44,7 +46,9 @@ pub fn answer(
     packet: &mut [u8],
     lent: &mut Lent,
     kept: &mut [u8],
-) -> Next {
+) -> Next
+    ensures lent { StaysLent lent.old lent.new }
+{
     match packet.first().copied() {
         Some(b'M') => Next::Reply(inspect::write_digits(session, reply, packet, lent)),
         Some(b'X') => Next::Reply(inspect::write_bytes(session, reply, packet, lent)),
@@ -52,6 +56,6 @@ pub fn answer(
             Next::Reply(inspect::write_registers(session, reply, packet, lent, kept))
         }
         Some(b'b') => resumes::reverses(session, packet, lent),
-        _ => still(session, reply, packet, lent),
+        _ => still(session, reply, packet, lent.seen()),
     }
 }

@@ -1,6 +1,8 @@
 // qRcmd: a line for the station that gdb passes on.
 #![tactic(auto)]
 
+ghost use Rattle.image.specs.Lent.{StaysLent};
+
 use base16::{gather, spread};
 use image::lent::Lent;
 use monitor::monitor;
@@ -21,7 +23,9 @@ pub fn command(
     reply: &mut [u8],
     packet: &mut [u8],
     lent: &mut Lent,
-) -> Next {
+) -> Next
+    ensures lent { StaysLent lent.old lent.new }
+{
     let count = gather(packet, 6).min(packet.len());
     let said = monitor(session, &packet[..count], reply, lent);
     replied(reply, said)

@@ -1,6 +1,8 @@
 // The machine runs for gdb, piece by piece, forward and backward, and stops where gdb wants it to.
 #![tactic(auto)]
 
+ghost use Rattle.std.specs.Prelude.{◌≡◌};
+
 pub mod piece; // a piece of a run forward
 pub mod reverse; // a run or a step backward
 
@@ -33,6 +35,8 @@ fn taken_back(
     journal: &mut [u8],
     index: &mut [u8],
     steps: usize,
-) -> Answer {
+) -> Answer
+    ensures journal { journal.new ≡ journal.old }
+{
     take_back(image, ram, paper, journal, index, steps as u64)
 }

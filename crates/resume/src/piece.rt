@@ -1,10 +1,12 @@
 // A piece of a run forward. With a breakpoint or a watch it is short, and its records are then looked at for the first stop. If there is one, the piece is taken back
 // whole, what it overwrote is put back, and exactly the steps before the stop are run: the same as if it had stopped there (demand 3), with no step on hand lost.
+ghost use Rattle.image.specs.Lent.{StaysLent};
+
 use crate::{stands, stuck, taken_back};
 use answer::{Answer, Done, Reason};
 use hits::Stop;
 use hits::forward::{first, stops_at};
-use image::lent::Lent;
+use image::lent::{Lent, Seen};
 use journal::SLOT;
 use kept::{keep, put_back};
 use points::{breaks, watches};
@@ -52,7 +54,9 @@ fn whole(session: &mut [u64; 256], done: Done) -> Next {
     Next::Run
 }
 
-fn run(lent: &mut Lent, steps: usize) -> Answer {
+fn run(lent: &mut Lent, steps: usize) -> Answer
+    ensures lent { StaysLent lent.old lent.new }
+{
     forward::run(
         lent.image,
         lent.execution,
@@ -67,7 +71,9 @@ fn run(lent: &mut Lent, steps: usize) -> Answer {
 }
 
 // The piece of so many steps is taken back whole: what it overwrote is put back, and the steps before the stop are run.
-fn again(session: &mut [u64; 256], lent: &mut Lent, kept: &[u8], steps: usize, stop: Stop) -> Next {
+fn again(session: &mut [u64; 256], lent: &mut Lent, kept: &[u8], steps: usize, stop: Stop) -> Next
+    ensures lent { StaysLent lent.old lent.new }
+{
     let undone = taken_back(
         lent.image,
         lent.ram,
@@ -88,7 +94,7 @@ fn again(session: &mut [u64; 256], lent: &mut Lent, kept: &[u8], steps: usize, s
 }
 
 // The first stop among the steps that were run, by their records.
-fn found(session: &[u64; 256], lent: &Lent, steps: usize) -> Option<Stop> {
+fn found(session: &[u64; 256], lent: Seen, steps: usize) -> Option<Stop> {
     if is_plain(session) | (lent.journal.len() < SLOT) {
         return None;
     }
@@ -97,30 +103,34 @@ fn found(session: &[u64; 256], lent: &Lent, steps: usize) -> Option<Stop> {
 }
 
 // What the piece will overwrite is kept, where its records will be looked at.
-fn kept_for(session: &[u64; 256], lent: &Lent, kept: &mut [u8], length: usize) {
+fn kept_for(session: &[u64; 256], lent: Seen, kept: &mut [u8], length: usize) {
     if is_plain(session) {
         return;
     }
     keep(lent.image, lent.journal, lent.index, kept, length);
 }
 
-fn ran(session: &mut [u64; 256], lent: &mut Lent, kept: &mut [u8]) -> Next {
+fn ran(session: &mut [u64; 256], lent: &mut Lent, kept: &mut [u8]) -> Next
+    ensures lent { StaysLent lent.old lent.new }
+{
     let length = length(session, lent.journal.len() / SLOT);
-    kept_for(session, lent, kept, length);
+    kept_for(session, lent.seen(), kept, length);
     let done = run(lent, length);
     session[CHANGED] = 1;
     let Ok(done) = done else {
         return stuck(session, Line::Refused);
     };
     let steps = done.steps as usize;
-    match found(session, lent, steps) {
+    match found(session, lent.seen(), steps) {
         Some(stop) => again(session, lent, kept, steps, stop),
         None => whole(session, done),
     }
 }
 
 // One piece. A run stops at the PC that it has come to, but for that from which a step or a range step begins.
-pub fn piece(session: &mut [u64; 256], lent: &mut Lent, kept: &mut [u8]) -> Next {
+pub fn piece(session: &mut [u64; 256], lent: &mut Lent, kept: &mut [u8]) -> Next
+    ensures lent { StaysLent lent.old lent.new }
+{
     let pc = image::word(lent.image, image::PC);
     if session[UNSEEN] == 0 && stops_at(session, pc) {
         return Next::Stopped(Signal::Trap);

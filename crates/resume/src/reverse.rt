@@ -1,15 +1,21 @@
 // A run or a step backward: one look through the records, and one take-back.
+ghost use Rattle.std.specs.Prelude.{◌≡◌};
+ghost use Rattle.image.specs.Lent.{StaysLent};
+
 use crate::{stands, stuck, taken_back};
 use hits::Stop;
 use hits::backward::{newest, watched};
 use hits::says::record;
-use image::lent::Lent;
+use image::lent::{Lent, Seen};
 use stub::Next;
 use stub::kinds::Line;
 use stub::words::CHANGED;
 
 // Back to a stop, or to where the journal begins.
-fn back(session: &mut [u64; 256], lent: &mut Lent, stop: Option<Stop>) -> Next {
+fn back(session: &mut [u64; 256], lent: &mut Lent, stop: Option<Stop>) -> Next
+    ensures lent { StaysLent lent.old lent.new }
+    ensures journal { lent.new.journal.now ≡ lent.old.journal.now }
+{
     let hand = image::word(lent.image, image::ON_HAND) as usize;
     let steps = stop.map_or(hand, |stop| stop.steps);
     let answer = taken_back(
@@ -30,20 +36,23 @@ fn back(session: &mut [u64; 256], lent: &mut Lent, stop: Option<Stop>) -> Next {
 }
 
 // The newest stop among the steps on hand.
-fn any(session: &[u64; 256], lent: &Lent) -> Option<Stop> {
+fn any(session: &[u64; 256], lent: Seen) -> Option<Stop> {
     let next = image::word(lent.image, image::NEXT_SLOT) as usize;
     let hand = image::word(lent.image, image::ON_HAND) as usize;
     newest(session, lent.journal, lent.ram, next, hand)
 }
 
 // bc: back to the newest stop.
-pub fn run(session: &mut [u64; 256], lent: &mut Lent) -> Next {
-    let stop = any(session, lent);
+pub fn run(session: &mut [u64; 256], lent: &mut Lent) -> Next
+    ensures lent { StaysLent lent.old lent.new }
+    ensures journal { lent.new.journal.now ≡ lent.old.journal.now }
+{
+    let stop = any(session, lent.seen());
     back(session, lent, stop)
 }
 
 // The stop of one step back, where a step is on hand: it is not taken where it changes a watched byte.
-fn one(session: &[u64; 256], lent: &Lent) -> Option<Stop> {
+fn one(session: &[u64; 256], lent: Seen) -> Option<Stop> {
     if image::word(lent.image, image::ON_HAND) == 0 {
         return None;
     }
@@ -54,7 +63,10 @@ fn one(session: &[u64; 256], lent: &Lent) -> Option<Stop> {
 }
 
 // bs: one step back.
-pub fn step(session: &mut [u64; 256], lent: &mut Lent) -> Next {
-    let stop = one(session, lent);
+pub fn step(session: &mut [u64; 256], lent: &mut Lent) -> Next
+    ensures lent { StaysLent lent.old lent.new }
+    ensures journal { lent.new.journal.now ≡ lent.old.journal.now }
+{
+    let stop = one(session, lent.seen());
     back(session, lent, stop)
 }

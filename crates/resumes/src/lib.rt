@@ -1,7 +1,10 @@
 // c, s, vCont, bc, bs: the machine is to run, and the reply comes when it stops.
 #![tactic(auto)]
 
-use image::lent::Lent;
+ghost use Rattle.std.specs.Prelude.{◌≡◌};
+ghost use Rattle.image.specs.Lent.{StaysLent};
+
+use image::lent::{Lent, Seen};
 use peek::look;
 use points::watches::place_all;
 use resume::reverse;
@@ -19,7 +22,7 @@ fn was_interrupted(session: &mut [u64; 256]) -> bool {
 }
 
 // The watches are placed before a run, unless an interrupt came before it.
-fn is_ready(session: &mut [u64; 256], lent: &Lent) -> bool {
+fn is_ready(session: &mut [u64; 256], lent: Seen) -> bool {
     if was_interrupted(session) {
         return false;
     }
@@ -28,7 +31,7 @@ fn is_ready(session: &mut [u64; 256], lent: &Lent) -> bool {
 }
 
 // gdb itself steps off a breakpoint before it goes on, so only a run that is to go on looks at the PC where it begins.
-pub fn begin(session: &mut [u64; 256], lent: &Lent, mode: Mode) -> Next {
+pub fn begin(session: &mut [u64; 256], lent: Seen, mode: Mode) -> Next {
     if !is_ready(session, lent) {
         return Next::Stopped(Signal::Interrupt);
     }
@@ -38,7 +41,7 @@ pub fn begin(session: &mut [u64; 256], lent: &Lent, mode: Mode) -> Next {
 }
 
 // Without two numbers the range is empty.
-fn ranges(session: &mut [u64; 256], lent: &Lent, packet: &[u8]) -> Next {
+fn ranges(session: &mut [u64; 256], lent: Seen, packet: &[u8]) -> Next {
     let range = two(packet, 7, b',').unwrap_or_default();
     session[RANGE_FROM] = range.first % 0x1_0000_0000;
     session[RANGE_TO] = range.second % 0x1_0000_0000;
@@ -46,7 +49,7 @@ fn ranges(session: &mut [u64; 256], lent: &Lent, packet: &[u8]) -> Next {
 }
 
 // vCont: there is one thread, so the first action is what counts. Signals are not for the machine.
-pub fn continues(session: &mut [u64; 256], reply: &mut [u8], packet: &[u8], lent: &Lent) -> Next {
+pub fn continues(session: &mut [u64; 256], reply: &mut [u8], packet: &[u8], lent: Seen) -> Next {
     if packet.starts_with(b"vCont?") {
         return Next::Reply(put(reply, 0, b"vCont;c;C;s;S;r"));
     }
@@ -58,25 +61,34 @@ pub fn continues(session: &mut [u64; 256], reply: &mut [u8], packet: &[u8], lent
     }
 }
 
-// Back, by a run or by a step.
-fn back<F: FnOnce(&mut [u64; 256], &mut Lent) -> Next>(
-    session: &mut [u64; 256],
-    lent: &mut Lent,
-    travel: F,
-) -> Next
-    requires { F.IsAlwaysCallable travel }
+// How far back.
+#[derive(Clone, Copy)]
+enum Travel {
+    Run,
+    Step,
+}
+
+fn back(session: &mut [u64; 256], lent: &mut Lent, travel: Travel) -> Next
+    ensures lent { StaysLent lent.old lent.new }
+    ensures journal { lent.new.journal.now ≡ lent.old.journal.now }
 {
-    if !is_ready(session, lent) {
+    if !is_ready(session, lent.seen()) {
         return Next::Stopped(Signal::Interrupt);
     }
-    travel(session, lent)
+    match travel {
+        Travel::Run => reverse::run(session, lent),
+        Travel::Step => reverse::step(session, lent),
+    }
 }
 
 // bc, bs.
-pub fn reverses(session: &mut [u64; 256], packet: &[u8], lent: &mut Lent) -> Next {
+pub fn reverses(session: &mut [u64; 256], packet: &[u8], lent: &mut Lent) -> Next
+    ensures lent { StaysLent lent.old lent.new }
+    ensures journal { lent.new.journal.now ≡ lent.old.journal.now }
+{
     match packet.get(1) {
-        Some(b'c') => back(session, lent, reverse::run),
-        Some(b's') => back(session, lent, reverse::step),
+        Some(b'c') => back(session, lent, Travel::Run),
+        Some(b's') => back(session, lent, Travel::Step),
         _ => Next::Reply(0),
     }
 }

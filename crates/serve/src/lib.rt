@@ -1,6 +1,8 @@
 // The machine does what a turn of a session with gdb asks of it: a packet is answered, a line for the station is done, or a piece is run.
 #![tactic(auto)]
 
+ghost use Rattle.image.specs.Lent.{StaysLent};
+
 use gdb::Task;
 use image::lent::Lent;
 use packets::answer;
@@ -16,7 +18,9 @@ fn answered(
     packet: &mut [u8],
     lent: &mut Lent,
     kept: &mut [u8],
-) -> Next {
+) -> Next
+    ensures lent { StaysLent lent.old lent.new }
+{
     if packet.starts_with(b"qRcmd,") {
         return command(session, reply, packet, lent);
     }
@@ -31,7 +35,9 @@ pub fn perform(
     packet: &mut [u8],
     lent: &mut Lent,
     kept: &mut [u8],
-) -> Next {
+) -> Next
+    ensures lent { StaysLent lent.old lent.new }
+{
     match task {
         Task::Answer(length, _) => {
             let end = length.min(packet.len());
