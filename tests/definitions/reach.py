@@ -35,6 +35,8 @@ STATEMENTS = [
     # what is read from an image, and what the words of a session with gdb number
     "image.word_of", "image.register_of", "image.clock_of", "image.entry_of", "image.printer_of",
     "stub.mode_number", "stub.mode_of", "stub.signal_number", "stub.line_number", "stub.line_of",
+    # what a turn of a session leaves of what it was lent
+    "image.StaysLent", "image.IsSeen",
 ]
 
 # Below this line a file has aids to the proofs of the code. A file of nothing else begins with it.

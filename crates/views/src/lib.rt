@@ -39,7 +39,7 @@ fn printers<'a>(lent: Seen<'a>) -> Printers<'a> {
 // `line` is what was typed. Answers the place in `out` behind what is shown.
 pub fn show(view: View, line: &[u8], out: &mut [u8], lent: Seen) -> usize {
     match view {
-        View::Said(message) => say(out, lent.image, message),
+        View::Said(message) => say(out, 0, lent.image, message),
         View::Registers => lay(out, 0, Registers(lent.image)),
         View::Tlb => lay(out, 0, Tlb(lent.image)),
         View::Printers => lay(out, 0, printers(lent)),
