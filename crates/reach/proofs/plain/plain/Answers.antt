@@ -9,20 +9,20 @@ pub returns-then-va-ge-RAM : goal.returns-then-va-ge-RAM
 unfolding plain_of
 returns-then-va-ge-RAM c =
     elim c.if-aligned.branch [
-      then-aligned w ↦ elim c.if-not-has_bit.branch [
-        then-not-has_bit v ↦ rw (← c.has_bit.ensures, v.if-not-has_bit.true, ← v.aligned.ensures, ← v.value-is, w.if-aligned.true, ← w.value-is, c.if-va-ge-RAM.true)
-      | else-not-has_bit v ↦ absurd (true≢false (sym w.if-aligned.true ∙ v.value-is ∙ ap not v.if-not-has_bit.false))
+      | then-aligned w ↦ elim c.if-not-has_bit.branch [
+        | then-not-has_bit v ↦ rw (← c.has_bit.ensures, v.if-not-has_bit.true, ← v.aligned.ensures, ← v.value-is, w.if-aligned.true, ← w.value-is, c.if-va-ge-RAM.true)
+        | else-not-has_bit v ↦ absurd (true≢false (sym w.if-aligned.true ∙ v.value-is ∙ ap not v.if-not-has_bit.false))
       ]
-    | else-aligned w ↦ absurd (true≢false (sym c.if-va-ge-RAM.true ∙ w.value-is ∙ w.if-aligned.false))
+      | else-aligned w ↦ absurd (true≢false (sym c.if-va-ge-RAM.true ∙ w.value-is ∙ w.if-aligned.false))
     ]
 
 pub returns-else-va-ge-RAM : goal.returns-else-va-ge-RAM
 unfolding plain_of
 returns-else-va-ge-RAM c =
     elim c.if-not-has_bit.branch [
-      then-not-has_bit v ↦ elim c.if-aligned.branch [
-        then-aligned w ↦ rw (← c.has_bit.ensures, v.if-not-has_bit.true, ← v.aligned.ensures, ← v.value-is, w.if-aligned.true, ← w.value-is, c.if-va-ge-RAM.false)
-      | else-aligned w ↦ rw (← c.has_bit.ensures, v.if-not-has_bit.true, ← v.aligned.ensures, ← v.value-is, w.if-aligned.false, c.if-va-ge-RAM.false)
+      | then-not-has_bit v ↦ elim c.if-aligned.branch [
+        | then-aligned w ↦ rw (← c.has_bit.ensures, v.if-not-has_bit.true, ← v.aligned.ensures, ← v.value-is, w.if-aligned.true, ← w.value-is, c.if-va-ge-RAM.false)
+        | else-aligned w ↦ rw (← c.has_bit.ensures, v.if-not-has_bit.true, ← v.aligned.ensures, ← v.value-is, w.if-aligned.false, c.if-va-ge-RAM.false)
       ]
-    | else-not-has_bit v ↦ rw (← c.has_bit.ensures, v.if-not-has_bit.false, c.if-va-ge-RAM.false)
+      | else-not-has_bit v ↦ rw (← c.has_bit.ensures, v.if-not-has_bit.false, c.if-va-ge-RAM.false)
     ]
