@@ -63,7 +63,8 @@ fn rest(line: &[u8], from: usize) -> &[u8]
     line.get(from..).unwrap_or(&[])
 }
 
-// The place behind the spaces at a place.
+// The place behind the spaces at a place. Inlined, its loop would count along each place that is read behind them.
+#[inline(never)]
 pub fn behind_spaces(line: &[u8], from: usize) -> usize
     ensures { result ≡ behind_spaces line.now from }
 {
