@@ -1,6 +1,6 @@
 -- What `checked` answers, from the tests that it makes one by one.
-use Rattle.std.proofs.Common.{◌≡◌, ℕ, Bool, true, false, ◌&&◌, List}
-use Rattle.std.specs.Prelude.{None}
+use Rattle.std.proofs.Common.{◌≡◌, ℕ, Bool, true, false, ◌&&◌, List, sym, ap, ◌∙◌}
+use Rattle.std.specs.Prelude.{None, Some}
 use Rattle.std.specs.Bool.{then_some}
 use Rattle.state.specs.declared.machine.Machine.{Machine}
 use Rattle.rules.specs.Rules.{state_keeps}
@@ -21,3 +21,14 @@ module _ (slot : List ℕ) (m : Machine) (ram paper : ℕ) where
       then_some (x && y && z) b ≡ checked_of slot m ram paper
   unfolding fit_of state_keeps
   laid_out r b x y z keeps er eb ex ey ez = rw (ex, ey, ez, eb, er, keeps)
+
+  -- the same by the two ways on from the tests
+  pub fits : (r : Record) (b : Machine) (x y z : Bool) → keeps_layout slot ≡ true → r ≡ record_of slot → b ≡ machine_back r m →
+      x ≡ ram_place_fits r.saved ram → y ≡ paper_places_fit r.paper.mask r.printers paper → z ≡ state_keeps b paper →
+      (x && y && z) ≡ true → Some b ≡ checked_of slot m ram paper
+  fits r b x y z keeps er eb ex ey ez e = ap (λ f. then_some f b) (sym e) ∙ laid_out r b x y z keeps er eb ex ey ez
+
+  pub fits_not : (r : Record) (b : Machine) (x y z : Bool) → keeps_layout slot ≡ true → r ≡ record_of slot → b ≡ machine_back r m →
+      x ≡ ram_place_fits r.saved ram → y ≡ paper_places_fit r.paper.mask r.printers paper → z ≡ state_keeps b paper →
+      (x && y && z) ≡ false → None ≡ checked_of slot m ram paper
+  fits_not r b x y z keeps er eb ex ey ez e = ap (λ f. then_some f b) (sym e) ∙ laid_out r b x y z keeps er eb ex ey ez

@@ -32,7 +32,7 @@ fn paper_places_fit(mask: u32, printers: [Printer; 8], paper: usize) -> bool
     ok
 }
 
-// The machine before the step, where the record fits: the check goes on with it.
+// The machine before the step, where the record fits: the check goes on with it. An `if` hands it on: `then_some` copies it twice more for each record.
 pub fn checked(slot: &[u8], m: Machine, ram: usize, paper: usize) -> Option<Machine>
     requires slot_len { length slot.now ≡ 512 }
     requires paper_bound { paper ≤ 65536 }
@@ -46,5 +46,5 @@ pub fn checked(slot: &[u8], m: Machine, ram: usize, paper: usize) -> Option<Mach
     let fits = ram_place_fits(r.saved, ram)
         & paper_places_fit(r.paper.mask, r.printers, paper)
         & state_keeps(before, paper);
-    fits.then_some(before)
+    if fits { Some(before) } else { None }
 }

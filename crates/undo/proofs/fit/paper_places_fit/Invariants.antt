@@ -1,5 +1,5 @@
 -- `undo::fit::paper_places_fit` meets its contract. The invariant: `ok` says whether the places passed are there.
-use Rattle.std.proofs.Common.{◌≡◌, ◌-◌, ◌≤◌}
+use Rattle.std.proofs.Common.{◌≡◌, ◌≤◌}
 use Rattle.word.specs.Lists.{every}
 use Rattle.undo.specs.Fit.{paper_place_fits}
 use Rattle.undo.proofs.fit.paper_places_fit.Given as goal
